@@ -1,0 +1,1 @@
+// A table's numbers as columns.

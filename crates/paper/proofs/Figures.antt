@@ -1,0 +1,29 @@
+-- The figures of document 01 that are marked P come out of the definitions, and so does the CRC's published check value.
+-- By computation. Assumes nothing.
+use mathlib.Core.Path.{_≡_, refl}
+use mathlib.Core.List.{List, [], _∷_, map}
+use Prim.Native.Nat.{ℕ}
+use Rattle.paper.specs.Vocabulary.{every, listTo, lowest, sumTo, maxTo}
+use Rattle.paper.specs.Numbers.{eight, eachOnce, thresholdsHold}
+use Rattle.paper.specs.Seal.{sealBit, sealBits, sealByte, sealFrom, sealOf}
+use Rattle.paper.specs.Regions.{regionsHold, allRegionsHold}
+use Rattle.paper.specs.Analysis.{least, before, by, started, load, blocks, blocking, standing, levelSum, levelOf, startSum, startOf, finishSum, finishOf, finishFrom, job, later, worst, worstFrom, response, within, taskPasses, passes}
+use Rattle.paper.specs.Lengths.{larger, smaller, largest, slack, tolerance, lowestBelowZero, leastOf, lengthOf, regionsFit, allFit}
+use Rattle.paper.specs.Rows.{placeOf, rowAssignment, rowHolds}
+use Rattle.paper.specs.Figures.{Figure, Came, comesOut, figures, numbered, join, those, passingRows}
+
+abbrev came-out : List Figure → List Came
+came-out fs = map (λ f. comesOut (f .asked)) fs
+
+abbrev foretold : List Figure → List Came
+foretold fs = map (λ f. f .comes) fs
+
+-- every figure of the table, as one statement
+pub figures-hold : came-out figures ≡ foretold figures
+unfolding every listTo lowest sumTo maxTo eight eachOnce thresholdsHold regionsHold allRegionsHold least before by started load blocks blocking standing levelSum levelOf startSum startOf finishSum finishOf finishFrom job later worst worstFrom response within taskPasses passes larger smaller largest slack tolerance lowestBelowZero leastOf lengthOf regionsFit allFit placeOf rowAssignment rowHolds numbered join those passingRows
+figures-hold = refl
+
+-- CRC-16/IBM-3740 over the digits 1 to 9
+pub check-value : sealOf (0x31 ∷ 0x32 ∷ 0x33 ∷ 0x34 ∷ 0x35 ∷ 0x36 ∷ 0x37 ∷ 0x38 ∷ 0x39 ∷ []) ≡ 0x29b1
+unfolding sealBit sealBits sealByte sealFrom
+check-value = refl

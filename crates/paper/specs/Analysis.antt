@@ -1,0 +1,120 @@
+-- Document 01, "The analysis": response times. Task i is record i + 1.
+use Prim.Native.Nat.{ℕ, zero, suc, _+_, _-_, _*_, _/_, max}
+use mathlib.Core.Bool.{Bool, true, false, _&&_, cond}
+use mathlib.Core.List.{List}
+use lib.Dec.{leb, ltb, eqb}
+use Rattle.paper.specs.Vocabulary.{every, sumTo, maxTo, ceilDiv}
+use Rattle.paper.specs.Numbers.{rec, horizon, Assignment}
+use Rattle.paper.specs.declared.Record.{Record}
+use Rattle.paper.specs.declared.Time.{Time}
+use Rattle.paper.specs.declared.Time.the-variants.{At, Beyond}
+
+-- cost C, period T, deadline D of each of n tasks
+pub record Tasks : Type 0 where
+  pub n : ℕ
+  pub c : ℕ → ℕ
+  pub t : ℕ → ℕ
+  pub d : ℕ → ℕ
+
+abbrev pub tasksOf : List Record → ℕ → Tasks
+tasksOf rs n = record { n = n; c = λ j. rec rs j .cost; t = λ j. rec rs j .period; d = λ j. rec rs j .deadline }
+
+-- "the smallest x with ..": the first of from, from + 1, .., from + count - 1 that passes the test
+unfoldable pub least : (ℕ → Bool) → ℕ → ℕ → Time
+least test from zero = Beyond
+least test from (suc count) = elim (test from) [ true ↦ At from | false ↦ least test (suc from) count ]
+
+-- how many jobs of j have been asked for before x, ceil(x/T(j)), and how many by x, 1 + floor(x/T(j))
+unfoldable pub before : Tasks → ℕ → ℕ → ℕ
+before y x j = ceilDiv x (y .t j)
+
+unfoldable pub by : Tasks → ℕ → ℕ → ℕ
+by y x j = 1 + x / y .t j
+
+-- started(j) is ceil(S/T(j)) if B > 0, else 1 + floor(S/T(j))
+unfoldable pub started : Tasks → ℕ → ℕ → ℕ → ℕ
+started y b s j = cond (ltb 0 b) (before y s j) (by y s j)
+
+-- sum over the tasks j of a set of count(j)·C(j)
+unfoldable pub load : Tasks → (ℕ → Bool) → (ℕ → ℕ) → ℕ
+load y set count = sumTo (y .n) (λ j. cond (set j) (count j * y .c j) 0)
+
+-- B(i) is the largest C(j) with h(j) ≤ p(i) < p(j), or 0
+unfoldable pub blocks : Assignment → ℕ → ℕ → Bool
+blocks a i j = leb (a .h j) (a .p i) && ltb (a .p i) (a .p j)
+
+unfoldable pub blocking : Tasks → Assignment → ℕ → ℕ
+blocking y a i = maxTo (y .n) (λ j. cond (blocks a i j) (y .c j) 0)
+
+-- where a task stands: its blocking B, and which tasks count in L, in S and in F
+pub record Standing : Type 0 where
+  pub b : ℕ
+  pub level : ℕ → Bool
+  pub above : ℕ → Bool
+  pub cuts : ℕ → Bool
+
+-- in L those with p(j) ≤ p(i), in S those with p(j) < p(i), in F those with p(j) < h(i)
+unfoldable pub standing : Tasks → Assignment → ℕ → Standing
+standing y a i = record {
+    b = blocking y a i;
+    level = λ j. leb (a .p j) (a .p i);
+    above = λ j. ltb (a .p j) (a .p i);
+    cuts = λ j. ltb (a .p j) (a .h i) }
+
+-- L(i) is the smallest positive L with L = B(i) + sum over p(j) ≤ p(i) of ceil(L/T(j))·C(j)
+unfoldable pub levelSum : Tasks → Standing → ℕ → ℕ
+levelSum y s x = s .b + load y (s .level) (before y x)
+
+unfoldable pub levelOf : Tasks → Standing → Time
+levelOf y s = least (λ x. eqb x (levelSum y s x)) 1 horizon
+
+-- Start S: the smallest S ≥ 0 with S = B + k·C(i) + sum over p(j) < p(i) of started(j)·C(j)
+unfoldable pub startSum : Tasks → Standing → ℕ → ℕ → ℕ → ℕ
+startSum y s i k x = s .b + k * y .c i + load y (s .above) (started y (s .b) x)
+
+unfoldable pub startOf : Tasks → Standing → ℕ → ℕ → Time
+startOf y s i k = least (λ x. eqb x (startSum y s i k x)) 0 (horizon + 1)
+
+-- Finish F: the smallest F > S with F = S + C(i) + sum over p(j) < h(i) of (ceil(F/T(j)) − started(j))·C(j)
+unfoldable pub finishSum : Tasks → Standing → ℕ → ℕ → ℕ → ℕ
+finishSum y s i start x = start + y .c i + load y (s .cuts) (λ j. before y x j - started y (s .b) start j)
+
+unfoldable pub finishOf : Tasks → Standing → ℕ → ℕ → Time
+finishOf y s i start = least (λ x. eqb x (finishSum y s i start x)) (start + 1) (horizon - start)
+
+unfoldable pub finishFrom : Tasks → Standing → ℕ → Time → Time
+finishFrom y s i (At start) = finishOf y s i start
+finishFrom y s i Beyond = Beyond
+
+-- F of job k
+unfoldable pub job : Tasks → Standing → ℕ → ℕ → Time
+job y s i k = finishFrom y s i (startOf y s i k)
+
+-- R(i) is the largest F − k·T(i) over jobs k from 0 to ceil(L/T(i)) − 1; if L, any S or any F has no solution at or below H, "beyond".
+-- A difference below zero counts as 0 here: job 0's is above it (proofs/Response.antt has R by the signed differences).
+unfoldable pub later : Time → Time → ℕ → Time
+later (At r) (At f) released = At (max r (f - released))
+later (At r) Beyond released = Beyond
+later Beyond f released = Beyond
+
+unfoldable pub worst : Tasks → Standing → ℕ → ℕ → Time
+worst y s i zero = At 0
+worst y s i (suc k) = later (worst y s i k) (job y s i k) (k * y .t i)
+
+unfoldable pub worstFrom : Tasks → Standing → ℕ → Time → Time
+worstFrom y s i (At l) = worst y s i (before y l i)
+worstFrom y s i Beyond = Beyond
+
+unfoldable pub response : Tasks → Standing → ℕ → Time
+response y s i = worstFrom y s i (levelOf y s)
+
+-- An assignment passes when every R(i) exists and R(i) ≤ D(i)
+unfoldable pub within : Time → ℕ → Bool
+within (At r) d = leb r d
+within Beyond d = false
+
+unfoldable pub taskPasses : Tasks → Assignment → ℕ → Bool
+taskPasses y a i = within (response y (standing y a i) i) (y .d i)
+
+unfoldable pub passes : Tasks → Assignment → Bool
+passes y a = every (y .n) (taskPasses y a)

@@ -1,0 +1,153 @@
+-- What each of the eleven calls answers, and what every lent memory holds afterwards.
+-- A refusal returns its number (and record, for 16) and no lent byte or word has changed. On success only the bytes or words of the answer are written; the rest stay.
+use Prim.Native.Nat.{ℕ, zero, suc, _+_, _-_, _*_}
+use mathlib.Core.Path.{_≡_}
+use mathlib.Core.Bool.{Bool, true, false, cond}
+use mathlib.Core.List.{List, [], _∷_, _++_}
+use lib.IntN.{ℤ, pos}
+use lib.ListN.{length, take, drop, replicate}
+use Rattle.paper.specs.Numbers.{mostTasks, eight, zeroRecord, rec, assigned}
+use Rattle.paper.specs.File.{tasksIn, wordsIn, fileLength, regionWords, tableIn, fileOf}
+use Rattle.paper.specs.Regions.{Part, noPart, recordPart, regionsPart, nameList, namePart}
+use Rattle.paper.specs.Analysis.{Tasks, tasksOf, standing, response}
+use Rattle.paper.specs.Lengths.{tolerance, lengthOf, allFit}
+use Rattle.paper.specs.Rows.{rowSize, Next, Ended}
+use Rattle.paper.specs.Refusals.{firstOf, readAsks, recordAsks, writeAsks, timesAsks, tolerancesAsks, lengthsAsks, fitAsks, firstAsks, nextAsks, regionsAsks, nameAsks}
+use Rattle.paper.specs.declared.Refusal.{Refusal}
+use Rattle.paper.specs.declared.Table.{Table}
+use Rattle.paper.specs.declared.Outcome.{Outcome}
+use Rattle.paper.specs.declared.Outcome.the-variants.{Done, Refused}
+use Rattle.paper.specs.declared.ReadAnswer.{ReadAnswer}
+use Rattle.paper.specs.declared.WriteAnswer.{WriteAnswer}
+use Rattle.paper.specs.declared.WriteAnswer.the-variants as Write
+use Rattle.paper.specs.declared.Time.the-variants.{At}
+use Rattle.paper.specs.declared.Response.{Response}
+use Rattle.paper.specs.declared.TimesAnswer.{TimesAnswer}
+use Rattle.paper.specs.declared.TicksAnswer.{TicksAnswer}
+use Rattle.paper.specs.declared.FitAnswer.{FitAnswer}
+use Rattle.paper.specs.declared.FitAnswer.the-variants as Fit
+use Rattle.paper.specs.declared.RowAnswer.{RowAnswer}
+use Rattle.paper.specs.declared.RowAnswer.the-variants as Row
+
+-- a where the call is done, b where it is turned away
+module _ {A : Type 0} where
+  abbrev pub whenDone : Outcome → A → A → A
+  whenDone Done a b = a
+  whenDone (Refused r) a b = b
+
+-- Reading: the table; and the m region words at the front of the output
+abbrev pub noTable : Table
+noTable = record { n = 0; records = replicate mostTasks zeroRecord }
+
+abbrev pub readOutcome : List ℕ → ℕ → ℕ → List ℕ → ℕ → Outcome
+readOutcome f cabinet line catalogue room = firstOf (readAsks f cabinet line catalogue room)
+
+abbrev pub tableFor : Outcome → List ℕ → ReadAnswer
+tableFor o f = record { outcome = o; table = whenDone o (tableIn f) noTable }
+
+abbrev pub wordsFor : Outcome → List ℕ → List ℕ → List ℕ
+wordsFor o f out = whenDone o (regionWords f (tasksIn f) (wordsIn f) ++ drop (wordsIn f) out) out
+
+abbrev pub readAnswer : List ℕ → ℕ → ℕ → List ℕ → List ℕ → ReadAnswer
+readAnswer f cabinet line catalogue out = tableFor (readOutcome f cabinet line catalogue (length out)) f
+
+abbrev pub readOut : List ℕ → ℕ → ℕ → List ℕ → List ℕ → List ℕ
+readOut f cabinet line catalogue out = wordsFor (readOutcome f cabinet line catalogue (length out)) f out
+
+-- Writing: the file's length; and exactly its bytes at the front of the output
+abbrev pub writeOutcome : Table → ℕ → List ℕ → List ℕ → ℕ → Outcome
+writeOutcome t cabinet own catalogue room = firstOf (writeAsks t cabinet own catalogue room)
+
+abbrev pub lengthFor : Outcome → ℕ → WriteAnswer
+lengthFor Done size = Write.File size
+lengthFor (Refused r) size = Write.Refused r
+
+abbrev pub fileFor : Outcome → Table → ℕ → ℕ → List ℕ → List ℕ → List ℕ
+fileFor o t cabinet line own out =
+    whenDone o (fileOf t cabinet line own ++ drop (fileLength (t .n) (length own)) out) out
+
+abbrev pub writeAnswer : Table → ℕ → List ℕ → List ℕ → List ℕ → WriteAnswer
+writeAnswer t cabinet own catalogue out =
+    lengthFor (writeOutcome t cabinet own catalogue (length out)) (fileLength (t .n) (length own))
+
+abbrev pub writeOut : Table → ℕ → ℕ → List ℕ → List ℕ → List ℕ → List ℕ
+writeOut t cabinet line own catalogue out =
+    fileFor (writeOutcome t cabinet own catalogue (length out)) t cabinet line own out
+
+-- Response times: for each task its R, or beyond
+abbrev pub noTime : Response
+noTime = record { time = At 0 }
+
+abbrev pub timeOf : Table → ℕ → Response
+timeOf t i =
+    record { time = response (tasksOf (t .records) (t .n)) (standing (tasksOf (t .records) (t .n)) (assigned (t .records)) i) i }
+
+abbrev pub timesFor : Outcome → Table → TimesAnswer
+timesFor o t = record { outcome = o; times = whenDone o (eight (t .n) (timeOf t) noTime) (replicate mostTasks noTime) }
+
+abbrev pub timesAnswer : Table → TimesAnswer
+timesAnswer t = timesFor (firstOf (timesAsks t)) t
+
+-- Tolerances, lengths: a signed number for each task
+abbrev pub ticksFor : Outcome → ℕ → (ℕ → ℤ) → TicksAnswer
+ticksFor o n f = record { outcome = o; ticks = whenDone o (eight n f (pos 0)) (replicate mostTasks (pos 0)) }
+
+abbrev pub tolerancesAnswer : Table → TicksAnswer
+tolerancesAnswer t =
+    ticksFor (firstOf (tolerancesAsks t)) (t .n) (tolerance (tasksOf (t .records) (t .n)) (assigned (t .records)))
+
+abbrev pub lengthsAnswer : Table → TicksAnswer
+lengthsAnswer t =
+    ticksFor (firstOf (lengthsAsks t)) (t .n) (lengthOf (tasksOf (t .records) (t .n)) (assigned (t .records)))
+
+-- The region check: yes exactly when every region of every task is at most its task's length
+abbrev pub fitFor : Outcome → Bool → FitAnswer
+fitFor Done fits = cond fits Fit.Fits Fit.Unfit
+fitFor (Refused r) fits = Fit.Refused r
+
+abbrev pub fitAnswer : Table → List ℕ → List ℕ → FitAnswer
+fitAnswer t own catalogue =
+    fitFor (firstOf (fitAsks t own catalogue))
+    (allFit (t .records) (tasksOf (t .records) (t .n)) (assigned (t .records)) own catalogue)
+
+-- The listing: out and out' are what the buffer holds before and after. A row found is its first 2n numbers; the end and a refusal write nothing.
+unfoldable pub Lists : Tasks → List ℕ → List ℕ → List ℕ → RowAnswer → Type 0
+Lists y given out out' Row.Row = Next y given (take (rowSize (y .n)) out') × (drop (rowSize (y .n)) out' ≡ drop (rowSize (y .n)) out)
+Lists y given out out' Row.End = Ended y given × (out' ≡ out)
+Lists y given out out' (Row.Refused r) = ⊥
+
+unfoldable pub Says : Outcome → Tasks → List ℕ → List ℕ → List ℕ → RowAnswer → Type 0
+Says Done y given out out' answer = Lists y given out out' answer
+Says (Refused r) y given out out' answer = (answer ≡ Row.Refused r) × (out' ≡ out)
+
+-- the first of all: from a row that has not begun
+unfoldable pub FirstSays : Table → List ℕ → List ℕ → RowAnswer → Type 0
+FirstSays t out out' answer = Says (firstOf (firstAsks t (length out))) (tasksOf (t .records) (t .n)) [] out out' answer
+
+-- the first strictly after a given row
+unfoldable pub NextSays : Table → List ℕ → List ℕ → List ℕ → RowAnswer → Type 0
+NextSays t given out out' answer = Says (firstOf (nextAsks t given (length out))) (tasksOf (t .records) (t .n)) given out out' answer
+
+-- Parts handed back: the outcome, and where the part stands in the list it is of; on a refusal it is empty, at the start
+abbrev pub partFor : Outcome → Part → Part
+partFor o p = whenDone o p noPart
+
+abbrev pub recordOutcome : List ℕ → ℕ → ℕ → List ℕ → ℕ → Outcome
+recordOutcome f cabinet line catalogue number = firstOf (recordAsks f cabinet line catalogue number)
+
+abbrev pub recordPlace : List ℕ → ℕ → ℕ → List ℕ → ℕ → Part
+recordPlace f cabinet line catalogue number = partFor (recordOutcome f cabinet line catalogue number) (recordPart number)
+
+-- of the own words or of the catalogue, whichever the record names
+abbrev pub regionsOutcome : Table → List ℕ → List ℕ → ℕ → Outcome
+regionsOutcome t own catalogue number = firstOf (regionsAsks t own catalogue number)
+
+abbrev pub regionsPlace : Table → List ℕ → List ℕ → ℕ → Part
+regionsPlace t own catalogue number = partFor (regionsOutcome t own catalogue number) (regionsPart (rec (t .records) (number - 1)))
+
+-- of the cabinet's list or of the house list, by the number
+abbrev pub nameOutcome : ℕ → List ℕ → List ℕ → Outcome
+nameOutcome number cabinet house = firstOf (nameAsks number cabinet house)
+
+abbrev pub namePlace : ℕ → List ℕ → List ℕ → Part
+namePlace number cabinet house = partFor (nameOutcome number cabinet house) (namePart number (nameList number cabinet house))

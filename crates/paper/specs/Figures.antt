@@ -1,0 +1,142 @@
+-- Document 01, "Bench figures": those marked P, as one table of what is asked and what comes out.
+use Prim.Native.Nat.{ℕ, zero, suc, _+_, _-_, _*_}
+use mathlib.Core.Bool.{Bool, true, false, _&&_, cond}
+use mathlib.Core.List.{List, [], _∷_, _++_, map}
+use lib.IntN.{ℤ, pos}
+use lib.ListN.{getD}
+use Rattle.paper.specs.Vocabulary.{listTo}
+use Rattle.paper.specs.Numbers.{assigned}
+use Rattle.paper.specs.Analysis.{tasksOf, standing, job, passes}
+use Rattle.paper.specs.Rows.{rowSize, rowAssignment, rowHolds}
+use Rattle.paper.specs.Answers.{timesAnswer, tolerancesAnswer, lengthsAnswer, fitAnswer, noTime}
+use Rattle.paper.specs.declared.Source.the-variants.{Own}
+use Rattle.paper.specs.declared.Record.{Record}
+use Rattle.paper.specs.declared.Table.{Table}
+use Rattle.paper.specs.declared.Refusal.{Refusal}
+use Rattle.paper.specs.declared.Refusal.the-variants.{ToleranceBelowZero}
+use Rattle.paper.specs.declared.Outcome.{Outcome}
+use Rattle.paper.specs.declared.Outcome.the-variants.{Done, Refused}
+use Rattle.paper.specs.declared.Time.{Time}
+use Rattle.paper.specs.declared.Time.the-variants.{At, Beyond}
+use Rattle.paper.specs.declared.FitAnswer.{FitAnswer}
+use Rattle.paper.specs.declared.FitAnswer.the-variants as Fit
+
+-- what a figure asks; records are numbered from 1
+pub data Asked : Type 0 where
+  responseOf : Table → ℕ → Asked
+  passing : Table → Asked
+  rowsOf : Table → Asked
+  toleranceOf : Table → ℕ → Asked
+  longest : Table → ℕ → Asked
+  fitting : Table → List ℕ → Asked
+  firstFinish : Table → ℕ → Asked
+
+-- what comes out
+pub data Came : Type 0 where
+  number : ℤ → Came
+  beyond : Came
+  says : Bool → Came
+  rows : List (List ℕ) → Came
+  refused : Refusal → Came
+
+abbrev pub timeCame : Time → Came
+timeCame (At r) = number (pos r)
+timeCame Beyond = beyond
+
+abbrev pub came : Outcome → Came → Came
+came Done c = c
+came (Refused r) c = refused r
+
+abbrev pub fitCame : FitAnswer → Came
+fitCame Fit.Fits = says true
+fitCame Fit.Unfit = says false
+fitCame (Fit.Refused r) = refused r
+
+unfoldable pub join : List (List (List ℕ)) → List (List ℕ)
+join [] = []
+join (x ∷ xs) = x ++ join xs
+
+-- every list of `size` numbers from 1 to n, in the order of rows
+unfoldable pub numbered : ℕ → ℕ → List (List ℕ)
+numbered n zero = [] ∷ []
+numbered n (suc size) = join (listTo n (λ d. map (λ (r : List ℕ). suc d ∷ r) (numbered n size)))
+
+-- those that pass a test, in their order
+unfoldable pub those : (List ℕ → Bool) → List (List ℕ) → List (List ℕ)
+those test [] = []
+those test (x ∷ xs) = cond (test x) (x ∷ those test xs) (those test xs)
+
+unfoldable pub passingRows : Table → List (List ℕ)
+passingRows t =
+    those (λ r. rowHolds (t .n) r && passes (tasksOf (t .records) (t .n)) (rowAssignment (t .n) r))
+    (numbered (t .n) (rowSize (t .n)))
+
+abbrev pub comesOut : Asked → Came
+comesOut (responseOf t k) = came (timesAnswer t .outcome) (timeCame (getD (timesAnswer t .times) (k - 1) noTime .time))
+comesOut (passing t) = says (passes (tasksOf (t .records) (t .n)) (assigned (t .records)))
+comesOut (rowsOf t) = rows (passingRows t)
+comesOut (toleranceOf t k) = came (tolerancesAnswer t .outcome) (number (getD (tolerancesAnswer t .ticks) (k - 1) (pos 0)))
+comesOut (longest t k) = came (lengthsAnswer t .outcome) (number (getD (lengthsAnswer t .ticks) (k - 1) (pos 0)))
+comesOut (fitting t own) = fitCame (fitAnswer t own [])
+comesOut (firstFinish t k) =
+    timeCame (job (tasksOf (t .records) (t .n)) (standing (tasksOf (t .records) (t .n)) (assigned (t .records)) (k - 1)) (k - 1) 0)
+
+-- cost, period, deadline; priority, threshold; first region, region count
+abbrev pub task : ℕ → ℕ → ℕ → ℕ → ℕ → ℕ → ℕ → Record
+task c t d p h first count =
+    record { cost = c; period = t; deadline = d; priority = p; threshold = h; source = Own; first = first; count = count; name = 0 }
+
+-- A (2,5,d) is record 1 and B (4,10,10), in that order, with B's threshold, and B's regions from the second word on
+abbrev pub ab : ℕ → ℕ → ℕ → Table
+ab d h count = record { n = 2; records = task 2 5 d 1 1 0 1 ∷ task 4 10 10 2 h 1 count ∷ [] }
+
+-- (1,10,10), (9,35,35), (52,105,105) from source document 001, that order
+abbrev pub three : Table
+three = record { n = 3; records = task 1 10 10 1 1 0 1 ∷ task 9 35 35 2 2 0 1 ∷ task 52 105 105 3 3 0 1 ∷ [] }
+
+-- Table 1 of 002, costs 1 8 10 3, T = D = 7 23 25 33, priorities 1 2 4 3, thresholds 1 2 2 2
+abbrev pub table1 : Table
+table1 = record { n = 4; records = task 1 7 7 1 1 0 1 ∷ task 8 23 23 2 2 0 1 ∷ task 10 25 25 4 2 0 1 ∷ task 3 33 33 3 2 0 1 ∷ [] }
+
+pub record Figure : Type 0 where
+  pub asked : Asked
+  pub comes : Came
+
+abbrev pub _gives_ : Asked → Came → Figure
+_gives_ q a = record { asked = q; comes = a }
+
+infixl 25 _gives_
+
+abbrev pub figures : List Figure
+figures =
+    -- A (2,5,5), order A B, thresholds 1 2: R = 2 and 8
+    (responseOf (ab 5 2 1) 1 gives number (pos 2)) ∷
+    (responseOf (ab 5 2 1) 2 gives number (pos 8)) ∷
+    -- the same, thresholds 1 1: R(A) = 6, R(B) = 6; fails
+    (responseOf (ab 5 1 1) 1 gives number (pos 6)) ∷
+    (responseOf (ab 5 1 1) 2 gives number (pos 6)) ∷
+    (passing (ab 5 1 1) gives says false) ∷
+    -- A (2,5,5): the only passing row is 1 2 1 2
+    (rowsOf (ab 5 2 1) gives rows ((1 ∷ 2 ∷ 1 ∷ 2 ∷ []) ∷ [])) ∷
+    -- A (2,5,1): no row passes
+    (rowsOf (ab 1 2 1) gives rows []) ∷
+    -- A (2,5,5), order A B: tolerances 3 and 2, lengths 2 and 3
+    (toleranceOf (ab 5 2 1) 1 gives number (pos 3)) ∷
+    (toleranceOf (ab 5 2 1) 2 gives number (pos 2)) ∷
+    (longest (ab 5 2 1) 1 gives number (pos 2)) ∷
+    (longest (ab 5 2 1) 2 gives number (pos 3)) ∷
+    -- Regions 3+1 for B fit; 4 doesn't
+    (fitting (ab 5 2 2) (2 ∷ 3 ∷ 1 ∷ []) gives says true) ∷
+    (fitting (ab 5 2 1) (2 ∷ 4 ∷ []) gives says false) ∷
+    -- A (2,5,2): length of B is 0. A (2,5,1): refusal 16, record 1
+    (longest (ab 2 2 1) 2 gives number (pos 0)) ∷
+    (longest (ab 1 2 1) 2 gives refused (ToleranceBelowZero 1)) ∷
+    -- source document 001: first two tolerances 9 and 22; third length 9
+    (toleranceOf three 1 gives number (pos 9)) ∷
+    (toleranceOf three 2 gives number (pos 22)) ∷
+    (longest three 3 gives number (pos 9)) ∷
+    -- Table 1 of 002: first jobs finish at 1, 21, 25, 25
+    (firstFinish table1 1 gives number (pos 1)) ∷
+    (firstFinish table1 2 gives number (pos 21)) ∷
+    (firstFinish table1 3 gives number (pos 25)) ∷
+    (firstFinish table1 4 gives number (pos 25)) ∷ []

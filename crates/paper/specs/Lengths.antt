@@ -1,0 +1,54 @@
+-- Document 01, "The analysis": tolerances, lengths, the region check. Thresholds play no part.
+use Prim.Native.Nat.{ℕ, zero, suc, _+_, _-_, _*_}
+use mathlib.Core.Bool.{Bool, true, false, _&&_, cond}
+use mathlib.Core.List.{List}
+use lib.Dec.{leb, ltb}
+use lib.IntN.{ℤ, pos, subℕ}
+use lib.ListN.{getD}
+use lib.Signed.{leZ, ltZ}
+use Rattle.paper.specs.Vocabulary.{every, lowest}
+use Rattle.paper.specs.Numbers.{rec, Assignment}
+use Rattle.paper.specs.Analysis.{Tasks, before, load}
+use Rattle.paper.specs.Regions.{listOf}
+use Rattle.paper.specs.declared.Record.{Record}
+
+-- the larger and the smaller of two signed numbers
+unfoldable pub larger : ℤ → ℤ → ℤ
+larger a b = cond (leZ a b) b a
+
+unfoldable pub smaller : ℤ → ℤ → ℤ
+smaller a b = cond (leZ a b) a b
+
+-- the largest of f 1, f 2, .., f (k + 1)
+unfoldable pub largest : (ℕ → ℤ) → ℕ → ℤ
+largest f zero = f 1
+largest f (suc k) = larger (largest f k) (f (suc (suc k)))
+
+-- t − C(i) − sum over p(j) < p(i) of ceil(t/T(j))·C(j): a signed number
+unfoldable pub slack : Tasks → Assignment → ℕ → ℕ → ℤ
+slack y a i t = subℕ t (y .c i + load y (λ j. ltb (a .p j) (a .p i)) (before y t))
+
+-- Tolerance(i) is the largest of these for t from 1 to D(i)
+unfoldable pub tolerance : Tasks → Assignment → ℕ → ℤ
+tolerance y a i = largest (slack y a i) (y .d i - 1)
+
+-- some tolerance is below zero: the number of the lowest such record, or 0
+unfoldable pub lowestBelowZero : Tasks → Assignment → ℕ
+lowestBelowZero y a = lowest (y .n) (λ k. ltZ (tolerance y a k) (pos 0))
+
+-- the smallest of x and of f j for each j of a set below n
+unfoldable pub leastOf : ℕ → (ℕ → Bool) → (ℕ → ℤ) → ℤ → ℤ
+leastOf zero set f x = x
+leastOf (suc n) set f x = cond (set n) (smaller (leastOf n set f x) (f n)) (leastOf n set f x)
+
+-- Length(k) is the smaller of C(k) and the least tolerance of the tasks above k (C(k) if none is above)
+unfoldable pub lengthOf : Tasks → Assignment → ℕ → ℤ
+lengthOf y a k = leastOf (y .n) (λ j. ltb (a .p j) (a .p k)) (tolerance y a) (pos (y .c k))
+
+-- every region of every task is at most its task's length
+unfoldable pub regionsFit : List ℕ → Record → ℤ → Bool
+regionsFit list r q = every (r .count) (λ i. leZ (pos (getD list (r .first + i) 0)) q)
+
+unfoldable pub allFit : List Record → Tasks → Assignment → List ℕ → List ℕ → Bool
+allFit rs y a own catalogue =
+    every (y .n) (λ k. regionsFit (listOf (rec rs k .source) own catalogue) (rec rs k) (lengthOf y a k))

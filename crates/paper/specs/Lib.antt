@@ -1,0 +1,12 @@
+pub mod Vocabulary
+pub mod Numbers
+pub mod Bits
+pub mod Seal
+pub mod File
+pub mod Regions
+pub mod Analysis
+pub mod Lengths
+pub mod Rows
+pub mod Refusals
+pub mod Answers
+pub mod Figures

@@ -1,0 +1,162 @@
+-- Document 01, "Numbers a turned-away call returns": for each call the numbers it asks, in the order asked.
+use Prim.Native.Nat.{ℕ, zero, suc, _+_, _-_, _*_}
+use mathlib.Core.Bool.{Bool, true, false, not, _&&_, _||_, cond}
+use mathlib.Core.List.{List, [], _∷_, _++_}
+use lib.Dec.{leb, ltb, eqb}
+use lib.ListN.{length}
+use Rattle.paper.specs.Vocabulary.{every}
+use Rattle.paper.specs.Numbers.{rec, tasksInRange, countsInRange, recordsInRange, mostCabinet, mostName, assigned, unassigned, assignmentHolds}
+use Rattle.paper.specs.File.{editionIn, cabinetIn, lineIn, tasksIn, wordsIn, shortest, fileLength, sealed, spareClear, recordsIn, regionWords}
+use Rattle.paper.specs.Regions.{recordRegionsHold, allRegionsHold, nameWidth, nameList, nameStart}
+use Rattle.paper.specs.Analysis.{tasksOf}
+use Rattle.paper.specs.Lengths.{lowestBelowZero}
+use Rattle.paper.specs.Rows.{rowSize, rowHolds}
+use Rattle.paper.specs.declared.Record.{Record}
+use Rattle.paper.specs.declared.Table.{Table}
+use Rattle.paper.specs.declared.Refusal.{Refusal}
+use Rattle.paper.specs.declared.Refusal.the-variants.{Short, WrongEdition, WrongCabinet, WrongLine, WrongCounts, WrongLength, WrongSeal, SpareBitSet, OutOfRange, BadAssignment, BadRegions, NoRoom, NoSuchPart, Unassigned, DeadlineAbovePeriod, ToleranceBelowZero, BadRow}
+use Rattle.paper.specs.declared.Outcome.{Outcome}
+use Rattle.paper.specs.declared.Outcome.the-variants.{Done, Refused}
+
+abbrev pub numberOf : Refusal → ℕ
+numberOf Short = 1
+numberOf WrongEdition = 2
+numberOf WrongCabinet = 3
+numberOf WrongLine = 4
+numberOf WrongCounts = 5
+numberOf WrongLength = 6
+numberOf WrongSeal = 7
+numberOf SpareBitSet = 8
+numberOf OutOfRange = 9
+numberOf BadAssignment = 10
+numberOf BadRegions = 11
+numberOf NoRoom = 12
+numberOf NoSuchPart = 13
+numberOf Unassigned = 14
+numberOf DeadlineAbovePeriod = 15
+numberOf (ToleranceBelowZero k) = 16
+numberOf BadRow = 17
+
+abbrev pub Asks : Type 0
+Asks = List (Refusal × Bool)
+
+-- The lowest applicable number wins: each list stands in rising order, and its first ask that applies is the refusal
+abbrev pub firstOf : Asks → Outcome
+firstOf [] = Done
+firstOf (ask ∷ asks) = cond (ask .1) (Refused (ask .0)) (firstOf asks)
+
+-- n or m outside its range; a call that is lent no region words asks it of n alone
+abbrev pub wrongTasks : Table → Refusal × Bool
+wrongTasks t = (WrongCounts, not (tasksInRange (t .n)))
+
+abbrev pub wrongCounts : ℕ → ℕ → Refusal × Bool
+wrongCounts n m = (WrongCounts, not (countsInRange n m))
+
+-- C, T, D, name number outside its range
+abbrev pub outOfRange : List Record → ℕ → Refusal × Bool
+outOfRange rs n = (OutOfRange, not (recordsInRange rs n))
+
+-- priorities and thresholds neither all zero nor well formed
+abbrev pub badAssignment : List Record → ℕ → Refusal × Bool
+badAssignment rs n = (BadAssignment, not (assignmentHolds rs n))
+
+-- a region word or a task's regions break the rules
+abbrev pub badRegions : List Record → ℕ → List ℕ → List ℕ → Refusal × Bool
+badRegions rs n own catalogue = (BadRegions, not (allRegionsHold rs n own catalogue))
+
+-- the output is shorter than what would be written
+abbrev pub noRoom : ℕ → ℕ → Refusal × Bool
+noRoom room size = (NoRoom, ltb room size)
+
+-- no such record
+abbrev pub noSuchRecord : ℕ → ℕ → Refusal × Bool
+noSuchRecord number n = (NoSuchPart, not (leb 1 number && leb number n))
+
+-- table is unassigned
+abbrev pub isUnassigned : Table → Refusal × Bool
+isUnassigned t = (Unassigned, unassigned (t .records) (t .n))
+
+-- a deadline above its period
+abbrev pub deadlineAbovePeriod : Table → Refusal × Bool
+deadlineAbovePeriod t = (DeadlineAbovePeriod, not (every (t .n) (λ k. leb (rec (t .records) k .deadline) (rec (t .records) k .period))))
+
+-- some tolerance is below zero; names the lowest such record
+abbrev pub belowZeroAt : ℕ → Refusal × Bool
+belowZeroAt record' = (ToleranceBelowZero record', ltb 0 record')
+
+abbrev pub toleranceBelowZero : Table → Refusal × Bool
+toleranceBelowZero t = belowZeroAt (lowestBelowZero (tasksOf (t .records) (t .n)) (assigned (t .records)))
+
+-- Handing back a record reads the file first, so asks 1 to 11, then 13
+abbrev pub fileAsks : List ℕ → ℕ → ℕ → List ℕ → Asks
+fileAsks f cabinet line catalogue =
+    (Short, ltb (length f) shortest) ∷
+    (WrongEdition, not (eqb (editionIn f) 1)) ∷
+    (WrongCabinet, not (eqb (cabinetIn f) cabinet)) ∷
+    (WrongLine, not (eqb (lineIn f) line)) ∷
+    wrongCounts (tasksIn f) (wordsIn f) ∷
+    (WrongLength, not (eqb (length f) (fileLength (tasksIn f) (wordsIn f)))) ∷
+    (WrongSeal, not (sealed f (length f - 2))) ∷
+    (SpareBitSet, not (spareClear f (tasksIn f) (wordsIn f))) ∷
+    outOfRange (recordsIn f (tasksIn f)) (tasksIn f) ∷
+    badAssignment (recordsIn f (tasksIn f)) (tasksIn f) ∷
+    badRegions (recordsIn f (tasksIn f)) (tasksIn f) (regionWords f (tasksIn f) (wordsIn f)) catalogue ∷ []
+
+abbrev pub recordAsks : List ℕ → ℕ → ℕ → List ℕ → ℕ → Asks
+recordAsks f cabinet line catalogue number = fileAsks f cabinet line catalogue ++ (noSuchRecord number (tasksIn f) ∷ [])
+
+-- Reading asks 1 to 12
+abbrev pub readAsks : List ℕ → ℕ → ℕ → List ℕ → ℕ → Asks
+readAsks f cabinet line catalogue room = fileAsks f cabinet line catalogue ++ (noRoom room (wordsIn f) ∷ [])
+
+-- Writing asks 5, 9, 10, 11, 12
+abbrev pub writeAsks : Table → ℕ → List ℕ → List ℕ → ℕ → Asks
+writeAsks t cabinet own catalogue room =
+    wrongCounts (t .n) (length own) ∷
+    (OutOfRange, not (leb cabinet mostCabinet && recordsInRange (t .records) (t .n))) ∷
+    badAssignment (t .records) (t .n) ∷
+    badRegions (t .records) (t .n) own catalogue ∷
+    noRoom room (fileLength (t .n) (length own)) ∷ []
+
+-- Response times ask 5, 9, 10, 14
+abbrev pub timesAsks : Table → Asks
+timesAsks t = wrongTasks t ∷ outOfRange (t .records) (t .n) ∷ badAssignment (t .records) (t .n) ∷ isUnassigned t ∷ []
+
+-- Tolerances ask 5, 9, 10, 14, 15
+abbrev pub tolerancesAsks : Table → Asks
+tolerancesAsks t = timesAsks t ++ (deadlineAbovePeriod t ∷ [])
+
+-- lengths 16 as well
+abbrev pub lengthsAsks : Table → Asks
+lengthsAsks t = tolerancesAsks t ++ (toleranceBelowZero t ∷ [])
+
+-- the region check 11 too
+abbrev pub fitAsks : Table → List ℕ → List ℕ → Asks
+fitAsks t own catalogue =
+    wrongCounts (t .n) (length own) ∷
+    outOfRange (t .records) (t .n) ∷
+    badAssignment (t .records) (t .n) ∷
+    badRegions (t .records) (t .n) own catalogue ∷
+    isUnassigned t ∷
+    deadlineAbovePeriod t ∷
+    toleranceBelowZero t ∷ []
+
+-- Listing asks 5, 9, 12, 17 and ignores the table's own assignment; the first row has no row asked from
+abbrev pub firstAsks : Table → ℕ → Asks
+firstAsks t room = wrongTasks t ∷ outOfRange (t .records) (t .n) ∷ noRoom room (rowSize (t .n)) ∷ []
+
+abbrev pub nextAsks : Table → List ℕ → ℕ → Asks
+nextAsks t given room = firstAsks t room ++ ((BadRow, not (rowHolds (t .n) given)) ∷ [])
+
+-- regions ask 5, 13, then 11 for that record alone
+abbrev pub regionsAsks : Table → List ℕ → List ℕ → ℕ → Asks
+regionsAsks t own catalogue number =
+    wrongCounts (t .n) (length own) ∷
+    noSuchRecord number (t .n) ∷
+    (BadRegions, not (recordRegionsHold own catalogue (rec (t .records) (number - 1)))) ∷ []
+
+-- a name, asked by its number, 9 (above 127), then 13 (the name list ends before the entry does)
+abbrev pub nameAsks : ℕ → List ℕ → List ℕ → Asks
+nameAsks number cabinet house =
+    (OutOfRange, ltb mostName number) ∷
+    (NoSuchPart, ltb (length (nameList number cabinet house)) (nameStart number + nameWidth)) ∷ []

@@ -1,0 +1,120 @@
+// The types of document 01. What each call answers with them is defined in specs/.
+
+// Cabinet number, 24 bits, and line number, 16 bits: two types, so that one can't stand for the other.
+pub struct Cabinet(pub u32);
+pub struct Line(pub u16);
+
+// Where a task's regions stand: the file's own region words, or a lent catalogue.
+pub enum Source {
+    Own,
+    Catalogue,
+}
+
+// One task. Outside a file a field may hold any number: the calls ask whether it is in range.
+pub struct Record {
+    pub cost: u32,
+    pub period: u32,
+    pub deadline: u32,
+    pub priority: u32,
+    pub threshold: u32,
+    pub source: Source,
+    pub first: u32,
+    pub count: u32,
+    pub name: u32,
+}
+
+// The most tasks that a table may hold.
+pub const MOST_TASKS: usize = 8;
+
+// Records past n are not looked at.
+pub struct Table {
+    pub n: usize,
+    pub records: [Record; MOST_TASKS],
+}
+
+// Why a call was turned away. numberOf (specs/Refusals.antt) gives the paper's number.
+pub enum Refusal {
+    Short,
+    WrongEdition,
+    WrongCabinet,
+    WrongLine,
+    WrongCounts,
+    WrongLength,
+    WrongSeal,
+    SpareBitSet,
+    OutOfRange,
+    BadAssignment,
+    BadRegions,
+    NoRoom,
+    NoSuchPart,
+    Unassigned,
+    DeadlineAbovePeriod,
+    // Holds the number of the lowest record whose tolerance is below zero.
+    ToleranceBelowZero(usize),
+    BadRow,
+}
+
+pub enum Outcome {
+    Done,
+    Refused(Refusal),
+}
+
+// Reading. On a refusal the table is all zero.
+pub struct ReadAnswer {
+    pub outcome: Outcome,
+    pub table: Table,
+}
+
+// Writing: the number of bytes of the file, or a refusal.
+pub enum WriteAnswer {
+    File(usize),
+    Refused(Refusal),
+}
+
+// A response time, or none at or below the horizon.
+pub enum Time {
+    At(u64),
+    Beyond,
+}
+
+pub struct Response {
+    pub time: Time,
+}
+
+// Response times of records 1 to n. The others, and all on a refusal, are at 0.
+pub struct TimesAnswer {
+    pub outcome: Outcome,
+    pub times: [Response; MOST_TASKS],
+}
+
+// Tolerances, or lengths, of records 1 to n. The others, and all on a refusal, are 0.
+pub struct TicksAnswer {
+    pub outcome: Outcome,
+    pub ticks: [i64; MOST_TASKS],
+}
+
+// The region check.
+pub enum FitAnswer {
+    Fits,
+    Unfit,
+    Refused(Refusal),
+}
+
+// The listing: the row is in the lent buffer, or no row follows, or a refusal.
+pub enum RowAnswer {
+    Row,
+    End,
+    Refused(Refusal),
+}
+
+// A part of lent bytes (a record, a name) with its outcome. On a refusal the part is empty.
+pub struct BytesPart<'a> {
+    pub outcome: Outcome,
+    pub bytes: &'a [u8],
+}
+
+// A part of lent region words with its outcome. On a refusal the part is empty.
+pub struct WordsPart<'a> {
+    pub outcome: Outcome,
+    pub words: &'a [u32],
+}

@@ -1,0 +1,164 @@
+//! Response times (document 01, "The analysis"). p is priority, h threshold, and a smaller
+//! number is the higher priority.
+
+use crate::checks::*;
+use crate::table::*;
+
+/// Nothing above this many ticks counts as a solution.
+const HORIZON: u64 = 1_000_000;
+
+/// The tasks as the equations see them: task i here is record i + 1.
+#[derive(Clone, Copy)]
+pub struct Tasks {
+    pub n: usize,
+    pub cost: [u64; MOST_TASKS],
+    pub period: [u64; MOST_TASKS],
+    pub deadline: [u64; MOST_TASKS],
+    pub priority: [u32; MOST_TASKS],
+    pub threshold: [u32; MOST_TASKS],
+}
+
+impl Tasks {
+    pub fn of(table: &Table) -> Tasks {
+        Tasks {
+            n: table.n as usize,
+            cost: table.records.map(|record| record.cost as u64),
+            period: table.records.map(|record| record.period as u64),
+            deadline: table.records.map(|record| record.deadline as u64),
+            priority: table.records.map(|record| record.priority),
+            threshold: table.records.map(|record| record.threshold),
+        }
+    }
+}
+
+/// R of every task, `None` where it is beyond. Asks 5, 9, 10, 14.
+pub fn response_times(table: &Table) -> Result<Vec<Option<i64>>, Refusal> {
+    ask_counts_and_numbers(table)?;
+    refuse(10, assignment_wrong(table))?;
+    refuse(14, unassigned(table))?;
+    let tasks = Tasks::of(table);
+    Ok((0..tasks.n).map(|i| response_time(&tasks, i)).collect())
+}
+
+/// R(i), the largest F - k·T(i) over the jobs of the active period; `None` is "beyond".
+pub fn response_time(tasks: &Tasks, i: usize) -> Option<i64> {
+    let b = blocking(tasks, i);
+    let mut largest = i64::MIN;
+    let mut s = 0;
+    for k in 0..jobs(tasks, i, b)? {
+        s = start(tasks, i, b, k, s)?;
+        let f = finish(tasks, i, b, s)?;
+        largest = largest.max(f as i64 - (k * tasks.period[i]) as i64);
+    }
+    Some(largest)
+}
+
+/// An assignment passes when every R(i) exists and R(i) ≤ D(i).
+pub fn passes(tasks: &Tasks) -> bool {
+    (0..tasks.n).all(|i| task_passes(tasks, i).is_some())
+}
+
+/// The same jobs as in `response_time`, given up at the first that is beyond or late.
+fn task_passes(tasks: &Tasks, i: usize) -> Option<()> {
+    let b = blocking(tasks, i);
+    let mut s = 0;
+    for k in 0..jobs(tasks, i, b)? {
+        s = start(tasks, i, b, k, s)?;
+        let f = finish(tasks, i, b, s)?;
+        if f > k * tasks.period[i] + tasks.deadline[i] {
+            return None;
+        }
+    }
+    Some(())
+}
+
+/// B(i), the largest C(j) with h(j) ≤ p(i) < p(j), or 0.
+pub fn blocking(tasks: &Tasks, i: usize) -> u64 {
+    let mut largest = 0;
+    for j in 0..tasks.n {
+        if tasks.threshold[j] <= tasks.priority[i] && tasks.priority[i] < tasks.priority[j] {
+            largest = largest.max(tasks.cost[j]);
+        }
+    }
+    largest
+}
+
+/// ceil(L/T(i)): jobs k run from 0 to one less.
+fn jobs(tasks: &Tasks, i: usize, b: u64) -> Option<u64> {
+    Some(active_period(tasks, i, b)?.div_ceil(tasks.period[i]))
+}
+
+/// L(i), the smallest positive L with L = B + sum over p(j) ≤ p(i) of ceil(L/T(j))·C(j). The
+/// climb begins at 1, so that the trivial answer 0 is passed over.
+pub fn active_period(tasks: &Tasks, i: usize, b: u64) -> Option<u64> {
+    climb(1, |l| {
+        let mut sum = b;
+        for j in 0..tasks.n {
+            if tasks.priority[j] <= tasks.priority[i] {
+                sum += l.div_ceil(tasks.period[j]) * tasks.cost[j];
+            }
+        }
+        sum
+    })
+}
+
+/// S of job k, the smallest S ≥ 0 with S = B + k·C(i) + sum over p(j) < p(i) of
+/// started(j)·C(j). The right side grows with k, so S of the job before (0 for the first) lies
+/// at or below the answer and the climb may begin there.
+pub fn start(tasks: &Tasks, i: usize, b: u64, k: u64, before: u64) -> Option<u64> {
+    climb(before, |s| {
+        let mut sum = b + k * tasks.cost[i];
+        for j in 0..tasks.n {
+            if tasks.priority[j] < tasks.priority[i] {
+                sum += started(s, tasks.period[j], b) * tasks.cost[j];
+            }
+        }
+        sum
+    })
+}
+
+/// How many jobs of a higher task have come by the start S: ceil(S/T) if B > 0; if B = 0 an
+/// arrival at the very instant of the start counts too, so 1 + floor(S/T).
+fn started(s: u64, period: u64, b: u64) -> u64 {
+    if b > 0 {
+        s.div_ceil(period)
+    } else {
+        1 + s / period
+    }
+}
+
+/// F of the job that starts at S, the smallest F > S with F = S + C(i) + sum over p(j) < h(i)
+/// of (ceil(F/T(j)) - started(j))·C(j). For F > S no difference is below zero, so no solution
+/// lies below S + C(i) and the climb begins there.
+pub fn finish(tasks: &Tasks, i: usize, b: u64, s: u64) -> Option<u64> {
+    let mut begun = [0; MOST_TASKS];
+    for j in 0..tasks.n {
+        if tasks.priority[j] < tasks.threshold[i] {
+            begun[j] = started(s, tasks.period[j], b);
+        }
+    }
+    climb(s + tasks.cost[i], |f| {
+        let mut sum = s + tasks.cost[i];
+        for j in 0..tasks.n {
+            if tasks.priority[j] < tasks.threshold[i] {
+                sum += (f.div_ceil(tasks.period[j]) - begun[j]) * tasks.cost[j];
+            }
+        }
+        sum
+    })
+}
+
+/// The smallest solution of x = side(x) from `from` up, or `None` if there is none at or below
+/// the horizon. `side` never falls as x grows and side(from) ≥ from, so x climbs from below and
+/// cannot step over a solution. At 1,000,000 ticks and eight tasks a side is below 10^13.
+fn climb(from: u64, side: impl Fn(u64) -> u64) -> Option<u64> {
+    let mut x = from;
+    while x <= HORIZON {
+        let next = side(x);
+        if next == x {
+            return Some(x);
+        }
+        x = next;
+    }
+    None
+}

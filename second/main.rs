@@ -1,0 +1,84 @@
+//! The second program: everything that document 01 asks for, written a second time, from that
+//! document alone. It proves nothing. It is plain on purpose, so that it can be laid beside the
+//! paper clause by clause, and its answers are compared with those of the core.
+//!
+//! Subcommands, all from standard input to standard output:
+//! - `ask`: answers a stream of requests, one line each (see ask.rs);
+//! - `list`: five plate bytes, then a file; prints every passing row (see list.rs);
+//! - `make`: a description of a cabinet; writes the cabinet's file (see make.rs);
+//! - `plate`: the same description; writes the five plate bytes;
+//! - `catalogue`: the same description; prints the catalogue it names, one number a line.
+
+mod analysis;
+mod ask;
+mod bits;
+mod checks;
+mod file;
+mod lengths;
+mod list;
+mod listing;
+mod make;
+mod parts;
+mod seal;
+mod table;
+#[cfg(test)]
+mod tests;
+
+use std::io::{self, BufWriter, Read, Write};
+use std::process::ExitCode;
+
+/// What stops the program: a wrong command or description (status 2), or a broken pipe, say
+/// (status 1). A refusal of the paper is an answer and does not stop it.
+pub enum Stop {
+    Wrong(String),
+    Broken(io::Error),
+}
+
+impl From<io::Error> for Stop {
+    fn from(error: io::Error) -> Stop {
+        Stop::Broken(error)
+    }
+}
+
+fn main() -> ExitCode {
+    match run() {
+        Ok(()) => ExitCode::SUCCESS,
+        Err(Stop::Wrong(message)) => {
+            eprintln!("second: {message}");
+            ExitCode::from(2)
+        }
+        Err(Stop::Broken(error)) => {
+            eprintln!("second: {error}");
+            ExitCode::from(1)
+        }
+    }
+}
+
+fn run() -> Result<(), Stop> {
+    let commands: Vec<String> = std::env::args().skip(1).collect();
+    let [command] = commands.as_slice() else {
+        return Err(usage());
+    };
+    let input = io::stdin().lock();
+    let mut output = BufWriter::new(io::stdout().lock());
+    match command.as_str() {
+        "ask" => ask::run(input, &mut output)?,
+        "list" => list::run(input, &mut output)?,
+        "make" => output.write_all(&make::file(&whole_text(input)?)?)?,
+        "plate" => output.write_all(&make::plate(&whole_text(input)?)?)?,
+        "catalogue" => output.write_all(make::catalogue(&whole_text(input)?)?.as_bytes())?,
+        _ => return Err(usage()),
+    }
+    output.flush()?;
+    Ok(())
+}
+
+fn usage() -> Stop {
+    Stop::Wrong("give one of: ask list make plate catalogue".to_string())
+}
+
+fn whole_text(mut input: impl Read) -> Result<String, Stop> {
+    let mut text = String::new();
+    input.read_to_string(&mut text)?;
+    Ok(text)
+}

@@ -1,0 +1,98 @@
+//! The second program's own tests, and what they share.
+
+mod asking;
+mod bench;
+mod brute;
+mod files;
+mod list;
+mod making;
+mod refusals;
+mod samples;
+
+use crate::table::*;
+
+pub const PLATE: Plate = Plate {
+    cabinet: 70_001,
+    line: 12,
+};
+
+/// A table of (cost, period, deadline), unassigned, without regions or names.
+pub fn unassigned(tasks: &[(u32, u32, u32)]) -> Table {
+    let mut table = Table {
+        n: tasks.len() as u8,
+        ..Table::default()
+    };
+    for (record, (cost, period, deadline)) in table.records.iter_mut().zip(tasks) {
+        *record = Record {
+            cost: *cost,
+            period: *period,
+            deadline: *deadline,
+            ..Record::default()
+        };
+    }
+    table
+}
+
+/// The same with priorities and thresholds.
+pub fn assigned(tasks: &[(u32, u32, u32)], priorities: &[u32], thresholds: &[u32]) -> Table {
+    let mut table = unassigned(tasks);
+    for (i, record) in table.records[..tasks.len()].iter_mut().enumerate() {
+        record.priority = priorities[i];
+        record.threshold = thresholds[i];
+    }
+    table
+}
+
+/// Gives every record one own region that is its whole cost, and hands back these words.
+pub fn whole_regions(table: &mut Table) -> Vec<u32> {
+    for (i, record) in table.records[..table.n as usize].iter_mut().enumerate() {
+        record.first = i as u32;
+        record.count = 1;
+    }
+    table.tasks().iter().map(|task| task.cost).collect()
+}
+
+/// The file of a table that the writer takes.
+pub fn file_of(table: &Table, own: &[u32], catalogue: &[u32]) -> Vec<u8> {
+    let mut out = [0; 512];
+    let length = crate::file::write(PLATE, table, own, catalogue, &mut out).expect("refused");
+    out[..length].to_vec()
+}
+
+/// The file with a right seal again after its bytes were changed.
+pub fn resealed(mut file: Vec<u8>) -> Vec<u8> {
+    file.truncate(file.len() - 2);
+    let seal = crate::seal::seal(&file);
+    file.extend(seal.to_be_bytes());
+    file
+}
+
+/// Numbers that look random and are the same on every run (xorshift).
+pub struct Dice(u64);
+
+impl Dice {
+    pub fn new(seed: u64) -> Dice {
+        Dice(seed.wrapping_mul(0x9E37_79B9_7F4A_7C15) | 1)
+    }
+
+    /// A number from `low` to `high`, both possible.
+    pub fn from_to(&mut self, low: u32, high: u32) -> u32 {
+        self.0 ^= self.0 << 13;
+        self.0 ^= self.0 >> 7;
+        self.0 ^= self.0 << 17;
+        low + (self.0 >> 16) as u32 % (high - low + 1)
+    }
+
+    /// A well-formed assignment of the table's tasks.
+    pub fn assign(&mut self, table: &mut Table) {
+        let n = table.n as usize;
+        let mut priorities: Vec<u32> = (1..=n as u32).collect();
+        for place in (1..n).rev() {
+            priorities.swap(place, self.from_to(0, place as u32) as usize);
+        }
+        for (record, priority) in table.records.iter_mut().zip(priorities) {
+            record.priority = priority;
+            record.threshold = self.from_to(1, priority);
+        }
+    }
+}

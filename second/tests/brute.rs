@@ -1,0 +1,254 @@
+//! The analysis tried out value by value: every L, S, F and t one after the other, straight by
+//! the equations of document 01, "The analysis", in signed numbers.
+
+use super::*;
+use crate::analysis::*;
+use crate::lengths::tolerances;
+use crate::listing::Walk;
+
+const HORIZON: i64 = 1_000_000;
+
+/// One task of the equations: C, T, D, p, h.
+#[derive(Clone, Copy)]
+struct Task {
+    c: i64,
+    t: i64,
+    d: i64,
+    p: i64,
+    h: i64,
+}
+
+fn tasks_of(table: &Table) -> Vec<Task> {
+    let task = |record: &Record| Task {
+        c: record.cost as i64,
+        t: record.period as i64,
+        d: record.deadline as i64,
+        p: record.priority as i64,
+        h: record.threshold as i64,
+    };
+    table.tasks().iter().map(task).collect()
+}
+
+fn ceil(above: i64, below: i64) -> i64 {
+    let mut whole = 0;
+    while whole * below < above {
+        whole += 1;
+    }
+    whole
+}
+
+fn floor(above: i64, below: i64) -> i64 {
+    above.div_euclid(below)
+}
+
+fn blocking(tasks: &[Task], i: Task) -> i64 {
+    tasks
+        .iter()
+        .filter(|j| j.h <= i.p && i.p < j.p)
+        .map(|j| j.c)
+        .max()
+        .unwrap_or(0)
+}
+
+fn active_period(tasks: &[Task], i: Task, b: i64) -> Option<i64> {
+    let above: Vec<&Task> = tasks.iter().filter(|j| j.p <= i.p).collect();
+    (1..=HORIZON).find(|l| *l == b + above.iter().map(|j| (l + j.t - 1) / j.t * j.c).sum::<i64>())
+}
+
+fn started(b: i64, s: i64, j: &Task) -> i64 {
+    if b > 0 {
+        ceil(s, j.t)
+    } else {
+        1 + floor(s, j.t)
+    }
+}
+
+fn start(tasks: &[Task], i: Task, b: i64, k: i64) -> Option<i64> {
+    let side = |s: i64| {
+        let higher = tasks.iter().filter(|j| j.p < i.p);
+        b + k * i.c + higher.map(|j| started(b, s, j) * j.c).sum::<i64>()
+    };
+    (0..=HORIZON).find(|s| *s == side(*s))
+}
+
+fn finish(tasks: &[Task], i: Task, b: i64, s: i64) -> Option<i64> {
+    let side = |f: i64| {
+        let higher = tasks.iter().filter(|j| j.p < i.h);
+        s + i.c
+            + higher
+                .map(|j| (ceil(f, j.t) - started(b, s, j)) * j.c)
+                .sum::<i64>()
+    };
+    (s + 1..=HORIZON).find(|f| *f == side(*f))
+}
+
+fn response(tasks: &[Task], i: Task) -> Option<i64> {
+    let b = blocking(tasks, i);
+    let l = active_period(tasks, i, b)?;
+    let differences: Option<Vec<i64>> = (0..=ceil(l, i.t) - 1)
+        .map(|k| Some(finish(tasks, i, b, start(tasks, i, b, k)?)? - k * i.t))
+        .collect();
+    differences?.into_iter().max()
+}
+
+fn responses(table: &Table) -> Vec<Option<i64>> {
+    let tasks = tasks_of(table);
+    tasks.iter().map(|i| response(&tasks, *i)).collect()
+}
+
+fn tolerance(tasks: &[Task], i: Task) -> i64 {
+    let at = |t: i64| {
+        let higher = tasks.iter().filter(|j| j.p < i.p);
+        t - i.c - higher.map(|j| ceil(t, j.t) * j.c).sum::<i64>()
+    };
+    (1..=i.d).map(at).max().expect("a deadline is at least 1")
+}
+
+/// A small table that asks for 60 to 105 hundredths of the processor, more or less, so that long
+/// active periods are common and some tasks are beyond.
+fn small_table(dice: &mut Dice, n: u32) -> Table {
+    let hundredths = dice.from_to(60, 105);
+    let mut tasks = Vec::new();
+    for _ in 0..n {
+        let cost = dice.from_to(1, 9);
+        let period = (cost * n * 100 / hundredths).max(1) + dice.from_to(0, 2);
+        tasks.push((cost, period, dice.from_to(cost, 3 * period)));
+    }
+    let mut table = unassigned(&tasks);
+    dice.assign(&mut table);
+    table
+}
+
+#[test]
+fn response_times_value_by_value() {
+    let mut dice = Dice::new(1);
+    let (mut beyond, mut later_job_worse) = (0, 0);
+    for _ in 0..400 {
+        let n = dice.from_to(1, 5);
+        let table = small_table(&mut dice, n);
+        let times = responses(&table);
+        assert_eq!(response_times(&table), Ok(times.clone()), "{table:?}");
+        beyond += times.iter().filter(|time| time.is_none()).count();
+        later_job_worse += count_later_job_worse(&tasks_of(&table), &times);
+    }
+    // The tables are worth the trouble only if both of these come up, and often.
+    assert!(
+        beyond > 20 && later_job_worse > 20,
+        "{beyond} {later_job_worse}"
+    );
+}
+
+/// How many tasks have a response time that their first job does not show.
+fn count_later_job_worse(tasks: &[Task], times: &[Option<i64>]) -> usize {
+    let first_job = |i: Task| {
+        let b = blocking(tasks, i);
+        finish(tasks, i, b, start(tasks, i, b, 0)?)
+    };
+    tasks
+        .iter()
+        .zip(times)
+        .filter(|(i, time)| time.is_some() && first_job(**i) < **time)
+        .count()
+}
+
+#[test]
+fn passing_is_all_times_within_deadlines() {
+    let mut dice = Dice::new(2);
+    let mut passing = 0;
+    for _ in 0..2000 {
+        let n = dice.from_to(1, 8);
+        let table = small_table(&mut dice, n);
+        let times = response_times(&table).expect("refused");
+        let in_time = table
+            .tasks()
+            .iter()
+            .zip(&times)
+            .all(|(task, time)| match time {
+                Some(ticks) => *ticks <= task.deadline as i64,
+                None => false,
+            });
+        assert_eq!(passes(&Tasks::of(&table)), in_time, "{table:?}");
+        passing += in_time as usize;
+    }
+    assert!(0 < passing && passing < 2000, "{passing}");
+}
+
+#[test]
+fn tolerances_value_by_value() {
+    let mut dice = Dice::new(3);
+    let mut below_zero = 0;
+    for _ in 0..400 {
+        let n = dice.from_to(1, 8);
+        let mut table = small_table(&mut dice, n);
+        for record in &mut table.records {
+            record.deadline = record.deadline.min(record.period);
+        }
+        let tasks = tasks_of(&table);
+        let all: Vec<i64> = tasks.iter().map(|i| tolerance(&tasks, *i)).collect();
+        below_zero += all.iter().filter(|tolerance| **tolerance < 0).count();
+        assert_eq!(tolerances(&table), Ok(all), "{table:?}");
+    }
+    assert!(below_zero > 0);
+}
+
+/// Every run of 2n numbers from 0 to n, in order, kept if it is a well-formed assignment that
+/// passes value by value.
+fn rows_number_by_number(table: &Table) -> Vec<Vec<u8>> {
+    let n = table.n as usize;
+    let runs = (n + 1).pow(2 * n as u32);
+    let numbers = |run: usize| -> Vec<u8> {
+        (0..2 * n)
+            .rev()
+            .map(|place| (run / (n + 1).pow(place as u32) % (n + 1)) as u8)
+            .collect()
+    };
+    (0..runs)
+        .map(numbers)
+        .filter(|row| row_passes(table, row))
+        .collect()
+}
+
+fn row_passes(table: &Table, row: &[u8]) -> bool {
+    let n = table.n as usize;
+    let mut table = *table;
+    for record in &mut table.records {
+        record.priority = 0;
+    }
+    for place in 0..n {
+        if row[place] == 0 {
+            return false;
+        }
+        table.records[row[place] as usize - 1].priority = place as u32 + 1;
+        table.records[place].threshold = row[n + place] as u32;
+    }
+    let well_formed = table
+        .tasks()
+        .iter()
+        .all(|task| task.threshold >= 1 && task.threshold <= task.priority);
+    well_formed
+        && responses(&table)
+            .iter()
+            .zip(table.tasks())
+            .all(|(time, task)| match time {
+                Some(ticks) => *ticks <= task.deadline as i64,
+                None => false,
+            })
+}
+
+#[test]
+fn rows_of_small_tables() {
+    let mut dice = Dice::new(4);
+    let mut found = 0;
+    for run in 0..30 {
+        let n = run % 3 + 1;
+        let table = small_table(&mut dice, n);
+        let rows = rows_number_by_number(&table);
+        let mut walk = Walk::from_start(&table);
+        let walked: Vec<Vec<u8>> = std::iter::from_fn(|| walk.next_passing())
+            .map(|row| row.numbers().to_vec())
+            .collect();
+        assert_eq!(walked, rows, "{table:?}");
+        found += rows.len();
+    }
+    assert!(found > 30, "{found}");
+}
