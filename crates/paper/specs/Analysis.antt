@@ -19,7 +19,7 @@ pub record Tasks : Type 0 where
 abbrev pub tasksOf : List Record → ℕ → Tasks
 tasksOf rs n = record { n = n; c = λ j. rec rs j .cost; t = λ j. rec rs j .period; d = λ j. rec rs j .deadline }
 
--- "the smallest x with ..": the first of from, from + 1, .., from + count - 1 that passes the test
+-- "the smallest x with ..": the first of from, from + 1, .., from + count - 1 that passes the test; Beyond where none does
 unfoldable pub least : (ℕ → Bool) → ℕ → ℕ → Time
 least test from zero = Beyond
 least test from (suc count) = elim (test from) [ true ↦ At from | false ↦ least test (suc from) count ]
@@ -65,6 +65,7 @@ standing y a i = record {
 unfoldable pub levelSum : Tasks → Standing → ℕ → ℕ
 levelSum y s x = s .b + load y (s .level) (before y x)
 
+-- from 1 to H
 unfoldable pub levelOf : Tasks → Standing → Time
 levelOf y s = least (λ x. eqb x (levelSum y s x)) 1 horizon
 
@@ -72,13 +73,15 @@ levelOf y s = least (λ x. eqb x (levelSum y s x)) 1 horizon
 unfoldable pub startSum : Tasks → Standing → ℕ → ℕ → ℕ → ℕ
 startSum y s i k x = s .b + k * y .c i + load y (s .above) (started y (s .b) x)
 
+-- from 0 to H
 unfoldable pub startOf : Tasks → Standing → ℕ → ℕ → Time
 startOf y s i k = least (λ x. eqb x (startSum y s i k x)) 0 (horizon + 1)
 
--- Finish F: the smallest F > S with F = S + C(i) + sum over p(j) < h(i) of (ceil(F/T(j)) − started(j))·C(j)
+-- Finish F: the smallest F > S with F = S + C(i) + sum over p(j) < h(i) of (ceil(F/T(j)) − started(j))·C(j); no such difference is below zero, as F > S
 unfoldable pub finishSum : Tasks → Standing → ℕ → ℕ → ℕ → ℕ
 finishSum y s i start x = start + y .c i + load y (s .cuts) (λ j. before y x j - started y (s .b) start j)
 
+-- from S + 1 to H
 unfoldable pub finishOf : Tasks → Standing → ℕ → ℕ → Time
 finishOf y s i start = least (λ x. eqb x (finishSum y s i start x)) (start + 1) (horizon - start)
 
@@ -91,7 +94,7 @@ unfoldable pub job : Tasks → Standing → ℕ → ℕ → Time
 job y s i k = finishFrom y s i (startOf y s i k)
 
 -- R(i) is the largest F − k·T(i) over jobs k from 0 to ceil(L/T(i)) − 1; if L, any S or any F has no solution at or below H, "beyond".
--- A difference below zero counts as 0 here: job 0's is above it (proofs/Response.antt has R by the signed differences).
+-- A difference below zero counts as 0 here. L ≥ 1, so job 0 is among them, and its F − 0 is above zero (proofs/Response.antt has R by the signed differences).
 unfoldable pub later : Time → Time → ℕ → Time
 later (At r) (At f) released = At (max r (f - released))
 later (At r) Beyond released = Beyond

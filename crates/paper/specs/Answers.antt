@@ -8,11 +8,13 @@ use lib.IntN.{ℤ, pos}
 use lib.ListN.{length, take, drop, replicate}
 use Rattle.paper.specs.Numbers.{mostTasks, eight, zeroRecord, rec, assigned}
 use Rattle.paper.specs.File.{tasksIn, wordsIn, fileLength, regionWords, tableIn, fileOf}
-use Rattle.paper.specs.Regions.{Part, noPart, recordPart, regionsPart, nameList, namePart}
+use Rattle.paper.specs.Regions.{Part, partOf, noPart, listOf, recordPart, regionsPart, nameList, namePart}
 use Rattle.paper.specs.Analysis.{Tasks, tasksOf, standing, response}
 use Rattle.paper.specs.Lengths.{tolerance, lengthOf, allFit}
 use Rattle.paper.specs.Rows.{rowSize, Next, Ended}
 use Rattle.paper.specs.Refusals.{firstOf, readAsks, recordAsks, writeAsks, timesAsks, tolerancesAsks, lengthsAsks, fitAsks, firstAsks, nextAsks, regionsAsks, nameAsks}
+use Rattle.paper.specs.declared.Source.{Source}
+use Rattle.paper.specs.declared.Source.the-variants.{Own}
 use Rattle.paper.specs.declared.Refusal.{Refusal}
 use Rattle.paper.specs.declared.Table.{Table}
 use Rattle.paper.specs.declared.Outcome.{Outcome}
@@ -135,19 +137,33 @@ partFor o p = whenDone o p noPart
 abbrev pub recordOutcome : List ℕ → ℕ → ℕ → List ℕ → ℕ → Outcome
 recordOutcome f cabinet line catalogue number = firstOf (recordAsks f cabinet line catalogue number)
 
+-- the record: of the caller's own file
 abbrev pub recordPlace : List ℕ → ℕ → ℕ → List ℕ → ℕ → Part
 recordPlace f cabinet line catalogue number = partFor (recordOutcome f cabinet line catalogue number) (recordPart number)
 
--- of the own words or of the catalogue, whichever the record names
+abbrev pub recordBytes : List ℕ → ℕ → ℕ → List ℕ → ℕ → List ℕ
+recordBytes f cabinet line catalogue number = partOf (recordPlace f cabinet line catalogue number) f
+
+-- the regions: of the own words or of the catalogue, whichever the record names; of the own words on a refusal
 abbrev pub regionsOutcome : Table → List ℕ → List ℕ → ℕ → Outcome
 regionsOutcome t own catalogue number = firstOf (regionsAsks t own catalogue number)
+
+abbrev pub regionsSource : Table → List ℕ → List ℕ → ℕ → Source
+regionsSource t own catalogue number = whenDone (regionsOutcome t own catalogue number) (rec (t .records) (number - 1) .source) Own
 
 abbrev pub regionsPlace : Table → List ℕ → List ℕ → ℕ → Part
 regionsPlace t own catalogue number = partFor (regionsOutcome t own catalogue number) (regionsPart (rec (t .records) (number - 1)))
 
--- of the cabinet's list or of the house list, by the number
+abbrev pub regionsWords : Table → List ℕ → List ℕ → ℕ → List ℕ
+regionsWords t own catalogue number =
+    partOf (regionsPlace t own catalogue number) (listOf (regionsSource t own catalogue number) own catalogue)
+
+-- the name: of the cabinet's list or of the house list, by its number alone
 abbrev pub nameOutcome : ℕ → List ℕ → List ℕ → Outcome
 nameOutcome number cabinet house = firstOf (nameAsks number cabinet house)
 
 abbrev pub namePlace : ℕ → List ℕ → List ℕ → Part
 namePlace number cabinet house = partFor (nameOutcome number cabinet house) (namePart number (nameList number cabinet house))
+
+abbrev pub nameBytes : ℕ → List ℕ → List ℕ → List ℕ
+nameBytes number cabinet house = partOf (namePlace number cabinet house) (nameList number cabinet house)

@@ -3,17 +3,16 @@ use Prim.Native.Nat.{ℕ, zero, suc, _+_, _-_, _*_}
 use mathlib.Core.Bool.{Bool, true, false, _&&_, cond}
 use mathlib.Core.List.{List, [], _∷_, _++_, map}
 use lib.IntN.{ℤ, pos}
-use lib.ListN.{getD}
+use lib.ListN.{getD, length, replicate}
 use Rattle.paper.specs.Vocabulary.{listTo}
-use Rattle.paper.specs.Numbers.{assigned}
+use Rattle.paper.specs.Numbers.{mostTasks, zeroRecord, assigned}
 use Rattle.paper.specs.Analysis.{tasksOf, standing, job, passes}
 use Rattle.paper.specs.Rows.{rowSize, rowAssignment, rowHolds}
+use Rattle.paper.specs.Refusals.{numberOf, recordOf}
 use Rattle.paper.specs.Answers.{timesAnswer, tolerancesAnswer, lengthsAnswer, fitAnswer, noTime}
 use Rattle.paper.specs.declared.Source.the-variants.{Own}
 use Rattle.paper.specs.declared.Record.{Record}
 use Rattle.paper.specs.declared.Table.{Table}
-use Rattle.paper.specs.declared.Refusal.{Refusal}
-use Rattle.paper.specs.declared.Refusal.the-variants.{ToleranceBelowZero}
 use Rattle.paper.specs.declared.Outcome.{Outcome}
 use Rattle.paper.specs.declared.Outcome.the-variants.{Done, Refused}
 use Rattle.paper.specs.declared.Time.{Time}
@@ -31,13 +30,13 @@ pub data Asked : Type 0 where
   fitting : Table → List ℕ → Asked
   firstFinish : Table → ℕ → Asked
 
--- what comes out
+-- what comes out; a refusal by its number and, for 16, its record
 pub data Came : Type 0 where
   number : ℤ → Came
   beyond : Came
   says : Bool → Came
   rows : List (List ℕ) → Came
-  refused : Refusal → Came
+  refused : ℕ → ℕ → Came
 
 abbrev pub timeCame : Time → Came
 timeCame (At r) = number (pos r)
@@ -45,12 +44,12 @@ timeCame Beyond = beyond
 
 abbrev pub came : Outcome → Came → Came
 came Done c = c
-came (Refused r) c = refused r
+came (Refused r) c = refused (numberOf r) (recordOf r)
 
 abbrev pub fitCame : FitAnswer → Came
 fitCame Fit.Fits = says true
 fitCame Fit.Unfit = says false
-fitCame (Fit.Refused r) = refused r
+fitCame (Fit.Refused r) = refused (numberOf r) (recordOf r)
 
 unfoldable pub join : List (List (List ℕ)) → List (List ℕ)
 join [] = []
@@ -86,17 +85,21 @@ abbrev pub task : ℕ → ℕ → ℕ → ℕ → ℕ → ℕ → ℕ → Record
 task c t d p h first count =
     record { cost = c; period = t; deadline = d; priority = p; threshold = h; source = Own; first = first; count = count; name = 0 }
 
--- A (2,5,d) is record 1 and B (4,10,10), in that order, with B's threshold, and B's regions from the second word on
+-- a table of these tasks, the records past them zero
+abbrev pub table : List Record → Table
+table rs = record { n = length rs; records = rs ++ replicate (mostTasks - length rs) zeroRecord }
+
+-- A (2,5,d) is record 1, B is (4,10,10), in the order A B. A has threshold 1 and word 0 for its region; B has threshold h and `count` regions from word 1 on.
 abbrev pub ab : ℕ → ℕ → ℕ → Table
-ab d h count = record { n = 2; records = task 2 5 d 1 1 0 1 ∷ task 4 10 10 2 h 1 count ∷ [] }
+ab d h count = table (task 2 5 d 1 1 0 1 ∷ task 4 10 10 2 h 1 count ∷ [])
 
 -- (1,10,10), (9,35,35), (52,105,105) from source document 001, that order
 abbrev pub three : Table
-three = record { n = 3; records = task 1 10 10 1 1 0 1 ∷ task 9 35 35 2 2 0 1 ∷ task 52 105 105 3 3 0 1 ∷ [] }
+three = table (task 1 10 10 1 1 0 1 ∷ task 9 35 35 2 2 0 1 ∷ task 52 105 105 3 3 0 1 ∷ [])
 
 -- Table 1 of 002, costs 1 8 10 3, T = D = 7 23 25 33, priorities 1 2 4 3, thresholds 1 2 2 2
 abbrev pub table1 : Table
-table1 = record { n = 4; records = task 1 7 7 1 1 0 1 ∷ task 8 23 23 2 2 0 1 ∷ task 10 25 25 4 2 0 1 ∷ task 3 33 33 3 2 0 1 ∷ [] }
+table1 = table (task 1 7 7 1 1 0 1 ∷ task 8 23 23 2 2 0 1 ∷ task 10 25 25 4 2 0 1 ∷ task 3 33 33 3 2 0 1 ∷ [])
 
 pub record Figure : Type 0 where
   pub asked : Asked
@@ -130,7 +133,7 @@ figures =
     (fitting (ab 5 2 1) (2 ∷ 4 ∷ []) gives says false) ∷
     -- A (2,5,2): length of B is 0. A (2,5,1): refusal 16, record 1
     (longest (ab 2 2 1) 2 gives number (pos 0)) ∷
-    (longest (ab 1 2 1) 2 gives refused (ToleranceBelowZero 1)) ∷
+    (longest (ab 1 2 1) 2 gives refused 16 1) ∷
     -- source document 001: first two tolerances 9 and 22; third length 9
     (toleranceOf three 1 gives number (pos 9)) ∷
     (toleranceOf three 2 gives number (pos 22)) ∷

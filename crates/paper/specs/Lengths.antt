@@ -28,7 +28,7 @@ largest f (suc k) = larger (largest f k) (f (suc (suc k)))
 unfoldable pub slack : Tasks → Assignment → ℕ → ℕ → ℤ
 slack y a i t = subℕ t (y .c i + load y (λ j. ltb (a .p j) (a .p i)) (before y t))
 
--- Tolerance(i) is the largest of these for t from 1 to D(i)
+-- Tolerance(i) is the largest of these for t from 1 to D(i), which is at least 1 where a call gets this far (9)
 unfoldable pub tolerance : Tasks → Assignment → ℕ → ℤ
 tolerance y a i = largest (slack y a i) (y .d i - 1)
 

@@ -28,18 +28,19 @@ mostName = 127
 abbrev pub horizon : ℕ
 horizon = 1_000_000
 
--- cabinet: 24 bits
+-- cabinet, line: 24 bits, 16 bits. A line has 16 bits by its type; a cabinet is held in 32, and writing asks.
 abbrev pub mostCabinet : ℕ
 mostCabinet = 2 ^ 24 - 1
 
--- Records are numbered 1 to n in file order: record k + 1 of a table's list
+-- what the reader leaves past n
 abbrev pub zeroRecord : Record
 zeroRecord = record { cost = 0; period = 0; deadline = 0; priority = 0; threshold = 0; source = Own; first = 0; count = 0; name = 0 }
 
+-- Records are numbered 1 to n in file order: record k + 1 of a table's list
 abbrev pub rec : List Record → ℕ → Record
 rec rs k = getD rs k zeroRecord
 
--- one thing for each of n tasks, then what stands past n: as many as the most tasks
+-- one thing for each of n tasks, then what stands past n: eight in all, for n up to 8
 module _ {A : Type 0} where
   unfoldable pub eight : ℕ → (ℕ → A) → A → List A
   eight n f past = listTo n f ++ replicate (mostTasks - n) past

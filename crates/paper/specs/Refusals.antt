@@ -18,6 +18,7 @@ use Rattle.paper.specs.declared.Refusal.the-variants.{Short, WrongEditio
 use Rattle.paper.specs.declared.Outcome.{Outcome}
 use Rattle.paper.specs.declared.Outcome.the-variants.{Done, Refused}
 
+-- the paper's number of each refusal, and for 16 the record that it names (0 for the others)
 abbrev pub numberOf : Refusal → ℕ
 numberOf Short = 1
 numberOf WrongEdition = 2
@@ -37,10 +38,29 @@ numberOf DeadlineAbovePeriod = 15
 numberOf (ToleranceBelowZero k) = 16
 numberOf BadRow = 17
 
+abbrev pub recordOf : Refusal → ℕ
+recordOf Short = 0
+recordOf WrongEdition = 0
+recordOf WrongCabinet = 0
+recordOf WrongLine = 0
+recordOf WrongCounts = 0
+recordOf WrongLength = 0
+recordOf WrongSeal = 0
+recordOf SpareBitSet = 0
+recordOf OutOfRange = 0
+recordOf BadAssignment = 0
+recordOf BadRegions = 0
+recordOf NoRoom = 0
+recordOf NoSuchPart = 0
+recordOf Unassigned = 0
+recordOf DeadlineAbovePeriod = 0
+recordOf (ToleranceBelowZero k) = k
+recordOf BadRow = 0
+
 abbrev pub Asks : Type 0
 Asks = List (Refusal × Bool)
 
--- The lowest applicable number wins: each list stands in rising order, and its first ask that applies is the refusal
+-- The lowest applicable number wins: each list stands in the order asked, which is rising but for the regions of a record (5, 13, 11), and its first ask that applies is the refusal
 abbrev pub firstOf : Asks → Outcome
 firstOf [] = Done
 firstOf (ask ∷ asks) = cond (ask .1) (Refused (ask .0)) (firstOf asks)
@@ -87,7 +107,7 @@ belowZeroAt record' = (ToleranceBelowZero record', ltb 0 record')
 abbrev pub toleranceBelowZero : Table → Refusal × Bool
 toleranceBelowZero t = belowZeroAt (lowestBelowZero (tasksOf (t .records) (t .n)) (assigned (t .records)))
 
--- Handing back a record reads the file first, so asks 1 to 11, then 13
+-- Reading the file asks 1 to 11 of the file itself
 abbrev pub fileAsks : List ℕ → ℕ → ℕ → List ℕ → Asks
 fileAsks f cabinet line catalogue =
     (Short, ltb (length f) shortest) ∷
@@ -102,6 +122,7 @@ fileAsks f cabinet line catalogue =
     badAssignment (recordsIn f (tasksIn f)) (tasksIn f) ∷
     badRegions (recordsIn f (tasksIn f)) (tasksIn f) (regionWords f (tasksIn f) (wordsIn f)) catalogue ∷ []
 
+-- Handing back a record reads the file first, so asks 1 to 11, then 13
 abbrev pub recordAsks : List ℕ → ℕ → ℕ → List ℕ → ℕ → Asks
 recordAsks f cabinet line catalogue number = fileAsks f cabinet line catalogue ++ (noSuchRecord number (tasksIn f) ∷ [])
 

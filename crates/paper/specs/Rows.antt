@@ -14,7 +14,7 @@ use Rattle.paper.specs.Analysis.{Tasks, passes}
 abbrev pub rowSize : ℕ → ℕ
 rowSize n = 2 * n
 
--- record numbers from highest priority to lowest: where v stands first in an order, counted from 1
+-- record numbers from highest priority to lowest: where v stands first in an order, counted from 1 (for a v that isn't in it, the order's length)
 unfoldable pub placeOf : List ℕ → ℕ → ℕ
 placeOf [] v = 0
 placeOf (a ∷ order) v = cond (eqb a v) 1 (suc (placeOf order v))
@@ -29,7 +29,7 @@ rowHolds n row =
     eqb (length row) (rowSize n) &&
     (eachOnce n (λ i. getD row i 0) && thresholdsHold n (rowAssignment n row))
 
--- Rows are ordered by the first number that differs. A row that has not begun is before every other.
+-- Rows are ordered by the first number that differs: `Later f r` says that r comes strictly after f. A row that has not begun comes before every other.
 unfoldable pub Later : List ℕ → List ℕ → Type 0
 Later [] [] = ⊥
 Later [] (b ∷ r) = Unit {0}

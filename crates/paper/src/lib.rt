@@ -1,6 +1,7 @@
 // The types of document 01. What each call answers with them is defined in specs/.
 
 // Cabinet number, 24 bits, and line number, 16 bits: two types, so that one can't stand for the other.
+// A cabinet above 24 bits is refused when writing (9) and matches no file when reading (3).
 pub struct Cabinet(pub u32);
 pub struct Line(pub u16);
 
