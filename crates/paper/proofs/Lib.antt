@@ -1,1 +1,5 @@
 pub mod Figures
+pub mod Asked
+pub mod Rows
+pub mod Listing
+pub mod Exhausted
