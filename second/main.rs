@@ -7,18 +7,22 @@
 //! - `list`: five plate bytes, then a file; prints every passing row (see list.rs);
 //! - `make`: a description of a cabinet; writes the cabinet's file (see make.rs);
 //! - `plate`: the same description; writes the five plate bytes;
-//! - `catalogue`: the same description; prints the catalogue it names, one number a line.
+//! - `catalogue`: the same description; prints the catalogue it names, one number a line;
+//! - `generate SEED COUNT`: writes that many requests for `ask` (see generate.rs);
+//! - `inputs SEED COUNT FOLDER`: writes that many inputs for `list`, a file each.
 
 mod analysis;
 mod ask;
 mod bits;
 mod checks;
 mod file;
+mod generate;
 mod lengths;
 mod list;
 mod listing;
 mod make;
 mod parts;
+mod random;
 mod seal;
 mod table;
 #[cfg(test)]
@@ -56,9 +60,15 @@ fn main() -> ExitCode {
 
 fn run() -> Result<(), Stop> {
     let commands: Vec<String> = std::env::args().skip(1).collect();
-    let [command] = commands.as_slice() else {
+    let [command, rest @ ..] = commands.as_slice() else {
         return Err(usage());
     };
+    match (command.as_str(), rest) {
+        ("generate", [seed, count]) => return generate(number(seed)?, number(count)?),
+        ("inputs", [seed, count, folder]) => return inputs(number(seed)?, number(count)?, folder),
+        (_, []) => {}
+        _ => return Err(usage()),
+    }
     let input = io::stdin().lock();
     let mut output = BufWriter::new(io::stdout().lock());
     match command.as_str() {
@@ -74,7 +84,32 @@ fn run() -> Result<(), Stop> {
 }
 
 fn usage() -> Stop {
-    Stop::Wrong("give one of: ask list make plate catalogue".to_string())
+    Stop::Wrong("give one of: ask list make plate catalogue generate inputs".to_string())
+}
+
+fn number(text: &str) -> Result<u64, Stop> {
+    text.parse()
+        .map_err(|_| Stop::Wrong(format!("not a number: {text}")))
+}
+
+fn generate(seed: u64, count: u64) -> Result<(), Stop> {
+    let mut output = BufWriter::new(io::stdout().lock());
+    let mut broken = None;
+    generate::stream(seed, count, &mut |request| {
+        if let Err(error) = output.write_all(request) {
+            broken = Some(error);
+        }
+    });
+    output.flush()?;
+    broken.map_or(Ok(()), |error| Err(Stop::Broken(error)))
+}
+
+fn inputs(seed: u64, count: u64, folder: &str) -> Result<(), Stop> {
+    let random = &mut random::Random::new(seed);
+    for k in 0..count {
+        std::fs::write(format!("{folder}/{k}"), generate::input(random))?;
+    }
+    Ok(())
 }
 
 fn whole_text(mut input: impl Read) -> Result<String, Stop> {
