@@ -3,8 +3,24 @@ use Prim.Native.Nat.{ℕ, _<_, _≤_}
 use mathlib.Core.Path.{_≡_}
 use mathlib.Core.List.{List}
 use lib.ListN.{getD, length}
-use Rattle.paper.specs.Numbers.{mostTasks, mostTicks, Assignment}
+use Rattle.paper.specs.Vocabulary.{listTo}
+use Rattle.paper.specs.Numbers.{mostTasks, mostTicks, rec, Assignment}
 use Rattle.paper.specs.Analysis.{Tasks}
+use Rattle.paper.specs.declared.Record.{Record}
+use Rattle.columns.specs.declared.Column.{Column}
+use Rattle.columns.specs.declared.Column.the-variants.{Cost, Period, Deadline, Priority, Threshold}
+
+-- the number of a record that stands in a column
+abbrev pub valueIn : Column → Record → ℕ
+valueIn Cost r = r .cost
+valueIn Period r = r .period
+valueIn Deadline r = r .deadline
+valueIn Priority r = r .priority
+valueIn Threshold r = r .threshold
+
+-- a column: that number of every record
+abbrev pub columnOf : List Record → Column → List ℕ
+columnOf rs which = listTo mostTasks (λ j. valueIn which (rec rs j))
 
 -- tasks whose costs, periods and deadlines stand in columns
 abbrev pub tasksBy : ℕ → List ℕ → List ℕ → List ℕ → Tasks

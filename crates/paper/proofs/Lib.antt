@@ -1,5 +1,11 @@
 pub mod Figures
 pub mod Asked
+pub mod Responses
+pub mod Lengths
+pub mod Reading
 pub mod Rows
 pub mod Listing
+pub mod Signed
+pub mod Extremes
+pub mod Writing
 pub mod Exhausted

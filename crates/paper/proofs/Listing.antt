@@ -2,10 +2,10 @@
 use Prim.Native.Nat.{ℕ, zero, suc, _*_, _<_, _≤_, zero-le, suc-le-suc}
 use native.Mathlib.Nat.{not-suc-le-zero, le-of-suc-le-suc}
 use native.Mathlib.Omega.{arith}
-use mathlib.Core.Path.{_≡_, refl, sym, ap, subst, _∙_}
-use mathlib.Core.Bool.{Bool, true, false, not, _&&_, cond, and-eq-true-iff}
+use mathlib.Core.Path.{_≡_, refl, sym, subst}
+use mathlib.Core.Bool.{Bool, true, false, not, cond, and-eq-true-iff}
 use mathlib.Core.List.{List, [], _∷_}
-use mathlib.Core.Logic.{_⊎_, inl, inr, ⊎-elim}
+use mathlib.Core.Logic.{⊎-elim}
 use lib.Dec.{leb, eqb}
 use lib.ListN.{length, take, getD}
 use borrow.Author.Tests.{leb-true, eqb-true}
@@ -164,7 +164,7 @@ listing-whole t rows g =
       complete = λ row p. chain-complete y [] rows chain row p (later-start (t .n) row (started t rows g) (p .form));
       rising = chain-rising y [] rows chain;
       once = λ i j a l e.
-        later-irreflexive (getD rows i []) (subst (λ (r : List ℕ). Later (getD rows i []) r) (sym e) (chain-rising y [] rows chain i j a l))
+          later-irreflexive (getD rows i []) (subst (λ (r : List ℕ). Later (getD rows i []) r) (sym e) (chain-rising y [] rows chain i j a l));
     }
 
 -- A table has one such list.

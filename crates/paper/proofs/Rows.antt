@@ -1,14 +1,14 @@
 -- The order of rows, and that the listing's answers are unique: theorems about the definitions of specs/Rows.antt and specs/Answers.antt alone.
-use Prim.Native.Nat.{ℕ, zero, suc, _<_, _≤_}
+use Prim.Native.Nat.{ℕ, zero, suc, _<_}
 use native.Mathlib.Nat.{eq-or-lt-of-le, not-suc-le-zero}
 use native.Mathlib.Decide.{decLe}
 use native.Mathlib.Omega.{arith}
-use mathlib.Core.Path.{_≡_, refl, sym, ap, ap₂, _∙_}
+use mathlib.Core.Path.{_≡_, refl, sym, ap₂, _∙_}
 use mathlib.Core.List.{List, [], _∷_, _++_}
 use mathlib.Core.Logic.{_⊎_, inl, inr, ⊎-elim}
-use lib.ListN.{length, take, drop, getD, take-append-drop}
+use lib.ListN.{length, take, getD, take-append-drop}
 use Rattle.paper.specs.Analysis.{Tasks}
-use Rattle.paper.specs.Rows.{rowSize, Later, Passing, Next, Ended}
+use Rattle.paper.specs.Rows.{rowSize, Later, Next, Ended}
 use Rattle.paper.specs.Answers.{Lists, Says, FirstSays, NextSays}
 use Rattle.paper.specs.declared.Table.{Table}
 use Rattle.paper.specs.declared.Outcome.{Outcome}
@@ -103,11 +103,12 @@ next-or-ended y given a p e = e a (p .passing) (p .after)
 lists-unique : (y : Tasks) (given out p q : List ℕ) (a b : RowAnswer) → Lists y given out p a → Lists y given out q b → (a ≡ b) × (p ≡ q)
 unfolding Lists
 lists-unique y given out p q Row.Row Row.Row v w =
-    let k = rowSize (y .n) in
-    ( refl
-    , sym (take-append-drop k p)
-      ∙ ap₂ (λ (s t : List ℕ). s ++ t) (next-one y given (take k p) (take k q) (v .0) (w .0)) (v .1 ∙ sym (w .1))
-      ∙ take-append-drop k q )
+    let k = rowSize (y .n) in (
+      refl,
+      sym (take-append-drop k p)
+          ∙ ap₂ (λ (s t : List ℕ). s ++ t) (next-one y given (take k p) (take k q) (v .0) (w .0)) (v .1 ∙ sym (w .1))
+          ∙ take-append-drop k q,
+    )
 lists-unique y given out p q Row.Row Row.End v w = absurd (next-or-ended y given _ (v .0) (w .0))
 lists-unique y given out p q Row.Row (Row.Refused r) v w = absurd w
 lists-unique y given out p q Row.End Row.Row v w = absurd (next-or-ended y given _ (w .0) (v .0))

@@ -94,7 +94,7 @@ unfoldable pub job : Tasks → Standing → ℕ → ℕ → Time
 job y s i k = finishFrom y s i (startOf y s i k)
 
 -- R(i) is the largest F − k·T(i) over jobs k from 0 to ceil(L/T(i)) − 1; if L, any S or any F has no solution at or below H, "beyond".
--- A difference below zero counts as 0 here. L ≥ 1, so job 0 is among them, and its F − 0 is above zero (proofs/Response.antt has R by the signed differences).
+-- A difference below zero counts as 0 here. L ≥ 1, so job 0 is among them, and its F − 0 is above zero (proofs/Responses.antt has R by the signed differences).
 unfoldable pub later : Time → Time → ℕ → Time
 later (At r) (At f) released = At (max r (f - released))
 later (At r) Beyond released = Beyond

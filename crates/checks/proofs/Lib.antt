@@ -1,0 +1,4 @@
+pub mod Asks
+pub mod Assignment
+pub mod Regions
+pub mod Meaning

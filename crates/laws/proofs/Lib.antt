@@ -1,0 +1,9 @@
+pub mod Every
+pub mod Lists
+pub mod Least
+pub mod Sums
+pub mod Agree
+pub mod Arrivals
+pub mod Order
+pub mod Steps
+pub mod AgreeLengths

@@ -1,0 +1,70 @@
+-- Sums and largest values over the numbers below n: they rise with each part, and are bounded by its bound.
+use Prim.Native.Nat.{ℕ, zero, suc, _+_, _*_, _≤_, _<_, zero-le, max}
+use mathlib.Core.Path.{_≡_, refl, ap, ap₂}
+use mathlib.Core.Bool.{Bool, true, false, cond}
+use mathlib.Core.Logic.{⊎-elim}
+use native.Mathlib.Omega.{arith}
+use native.Mathlib.Numerals.{add-one}
+use native.Mathlib.Nat.{add-le-add, eq-or-lt-of-le, suc-mul}
+use Rattle.paper.specs.Vocabulary.{sumTo, maxTo}
+
+pub sum-none : (f : ℕ → ℕ) → sumTo 0 f ≡ 0
+unfolding sumTo
+sum-none f = refl
+
+pub sum-le : (n : ℕ) (f g : ℕ → ℕ) → ((j : ℕ) → j < n → f j ≤ g j) → sumTo n f ≤ sumTo n g
+unfolding sumTo
+sum-le zero f g h = zero-le
+sum-le (suc n) f g h = add-le-add (sum-le n f g (λ j l. h j (omega arith))) (h n (omega arith))
+
+pub sum-add : (n : ℕ) (f g h : ℕ → ℕ) → ((j : ℕ) → j < n → f j + g j ≡ h j) → sumTo n f + sumTo n g ≡ sumTo n h
+unfolding sumTo
+sum-add zero f g h w = refl
+sum-add (suc n) f g h w = omega (arith, sum-add n f g h (λ j l. w j (omega arith)), w n (omega arith))
+
+pub sum-bound : (n most : ℕ) (f : ℕ → ℕ) → ((j : ℕ) → j < n → f j ≤ most) → sumTo n f ≤ n * most
+unfolding sumTo
+sum-bound zero most f h = zero-le
+sum-bound (suc n) most f h = rw suc-mul (add-le-add (sum-bound n most f (λ j l. h j (omega arith))) (h n (omega arith)))
+
+-- each part is at most the whole
+pub sum-part : (n : ℕ) (f : ℕ → ℕ) (i : ℕ) → i < n → f i ≤ sumTo n f
+unfolding sumTo
+sum-part zero f i l = absurd (omega arith)
+sum-part (suc n) f i l =
+    let h : i ≤ n = omega arith in
+    ⊎-elim (λ e. rw e (omega arith)) (λ m. omega (arith, sum-part n f i m)) (eq-or-lt-of-le h)
+
+pub max-none : (f : ℕ → ℕ) → maxTo 0 f ≡ 0
+unfolding maxTo
+max-none f = refl
+
+pub max-more : (n : ℕ) (f : ℕ → ℕ) → maxTo (n + 1) f ≡ max (maxTo n f) (f n)
+unfolding maxTo
+max-more n f = rw add-one
+
+-- the turn of a loop that has x so far, and its end
+pub max-turn : (k : ℕ) (f : ℕ → ℕ) {x t : ℕ} → x ≡ maxTo k f → t ≡ f k → max x t ≡ maxTo (k + 1) f
+max-turn k f e g = rw (max-more k f, e, g)
+
+pub max-done : (k n : ℕ) (f : ℕ → ℕ) {x : ℕ} → x ≡ maxTo k f → k ≡ n → x ≡ maxTo n f
+max-done k n f e h = rw (← h) e
+
+pub max-same : (n : ℕ) (f g : ℕ → ℕ) → ((j : ℕ) → j < n → f j ≡ g j) → maxTo n f ≡ maxTo n g
+unfolding maxTo
+max-same zero f g h = refl
+max-same (suc n) f g h = ap₂ max (max-same n f g (λ j l. h j (omega arith))) (h n (omega arith))
+
+pub max-bound : (n most : ℕ) (f : ℕ → ℕ) → ((j : ℕ) → j < n → f j ≤ most) → maxTo n f ≤ most
+unfolding maxTo
+max-bound zero most f h = zero-le
+max-bound (suc n) most f h = omega (arith, max-bound n most f (λ j l. h j (omega arith)), h n (omega arith))
+
+-- a part that counts or not
+pub part-le : (t : Bool) {a b : ℕ} → a ≤ b → cond t a 0 ≤ cond t b 0
+part-le true h = h
+part-le false h = zero-le
+
+pub part-bound : (t : Bool) {a most : ℕ} → a ≤ most → cond t a 0 ≤ most
+part-bound true h = h
+part-bound false h = zero-le

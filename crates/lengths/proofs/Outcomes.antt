@@ -1,0 +1,73 @@
+-- From what a stage found to the answer of the call.
+use Prim.Native.Nat.{ℕ, _≤_, _<_}
+use mathlib.Core.Path.{_≡_, sym, ap, _∙_}
+use mathlib.Core.Bool.{Bool, true, false}
+use mathlib.Core.List.{List, [], _∷_}
+use borrow.Author.Tests.{lt-ltb, le-ltb, leb-true}
+use lib.Dec.{leb}
+use lib.IntN.{ℤ, pos}
+use lib.ListN.{length, replicate}
+use Rattle.paper.specs.Numbers.{mostTasks, mostWords, eight, tasksInRange, countsInRange, recordsInRange}
+use Rattle.paper.specs.Refusals.{firstOf, tolerancesAsks, belowZeroAt}
+use Rattle.paper.specs.Answers.{whenDone, ticksFor, fitFor}
+use Rattle.paper.specs.declared.Table.{Table}
+use Rattle.paper.specs.declared.Refusal.{Refusal}
+use Rattle.paper.specs.declared.Refusal.the-variants.{ToleranceBelowZero}
+use Rattle.paper.specs.declared.Outcome.{Outcome}
+use Rattle.paper.specs.declared.Outcome.the-variants.{Done, Refused}
+use Rattle.paper.specs.declared.TicksAnswer.{TicksAnswer}
+use Rattle.paper.specs.declared.FitAnswer.the-variants as Fit
+use Rattle.laws.proofs.Every.{both}
+use Rattle.checks.proofs.Asks.{met}
+use Rattle.checks.proofs.Meaning.{few, tolerances-done}
+use Rattle.lengths.specs.Stages.{earlyAsks, turnedAway}
+
+pub ticks-refused : {o : Outcome} (r : Refusal) (n : ℕ) (f : ℕ → ℤ) → o ≡ Refused r → turnedAway r ≡ ticksFor o n f
+ticks-refused r n f e = ap (λ o. ticksFor o n f) (sym e)
+
+pub ticks-done : {o : Outcome} {xs : List ℤ} (n : ℕ) (f : ℕ → ℤ) → o ≡ Done → xs ≡ eight n f (pos 0)
+    → _≡_ {A = TicksAnswer} (record { outcome = Done; ticks = xs }) (ticksFor o n f)
+ticks-done n f e h = ap (λ xs. record { outcome = Done; ticks = xs }) h ∙ ap (λ o. ticksFor o n f) (sym e)
+
+-- refusal 16, by the number of the lowest record below zero
+pub below-refused : {low : ℕ} (l : ℕ) → l ≡ low → 0 < l → firstOf (belowZeroAt low ∷ []) ≡ Refused (ToleranceBelowZero l)
+below-refused l e h = rw (← e, lt-ltb 0 l h)
+
+pub below-done : {low : ℕ} (l : ℕ) → l ≡ low → l ≤ 0 → firstOf (belowZeroAt low ∷ []) ≡ Done
+below-done l e h = rw (← e, le-ltb 0 l h)
+
+-- where the tolerances ask nothing more, the walk may run
+pub in-range : (t : Table) → firstOf (tolerancesAsks t) ≡ Done → (t .n ≤ mostTasks) × (recordsInRange (t .records) (t .n) ≡ true)
+in-range t e = let f = tolerances-done t e .times in (few (t .n) (f .counts), f .ranges)
+
+-- what the counts' test says
+pub counts-say : (n m : ℕ) → countsInRange n m ≡ true → (n ≤ mostTasks) × (m ≤ mostWords)
+counts-say n m e =
+    let p = both (tasksInRange n) (leb m mostWords) e in
+    (few n (p .0), leb-true m mostWords (p .1))
+
+pub early-done : (t : Table) (own catalogue : List ℕ) → firstOf (earlyAsks t own catalogue) ≡ Done
+    → (t .n ≤ mostTasks) × (recordsInRange (t .records) (t .n) ≡ true)
+early-done t own catalogue e =
+    let c = met (countsInRange (t .n) (length own)) _ _ e in
+    (counts-say (t .n) (length own) (c .0) .0, met (recordsInRange (t .records) (t .n)) _ _ (c .1) .0)
+
+-- the parts of an answer
+module _ {a : TicksAnswer} {o : Outcome} (n : ℕ) (f : ℕ → ℤ) (e : a ≡ ticksFor o n f) where
+  pub answer-outcome : a .outcome ≡ o
+  answer-outcome = ap (λ (x : TicksAnswer). x .outcome) e
+
+  pub answer-ticks : a .outcome ≡ Done → a .ticks ≡ eight n f (pos 0)
+  answer-ticks d =
+      ap (λ (x : TicksAnswer). x .ticks) e
+      ∙ ap (λ x. whenDone x (eight n f (pos 0)) (replicate mostTasks (pos 0))) (sym answer-outcome ∙ d)
+
+-- the region check's answer
+pub fit-refused : {o : Outcome} (r : Refusal) (fits : Bool) → o ≡ Refused r → Fit.Refused r ≡ fitFor o fits
+fit-refused r fits e = ap (λ o. fitFor o fits) (sym e)
+
+pub fit-yes : {o : Outcome} {b fits : Bool} → o ≡ Done → b ≡ fits → b ≡ true → Fit.Fits ≡ fitFor o fits
+fit-yes e f h = rw (e, ← f, h)
+
+pub fit-no : {o : Outcome} {b fits : Bool} → o ≡ Done → b ≡ fits → b ≡ false → Fit.Unfit ≡ fitFor o fits
+fit-no e f h = rw (e, ← f, h)

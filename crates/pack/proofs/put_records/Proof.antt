@@ -1,0 +1,62 @@
+-- `pack::put_records` meets its contract. The loop's invariant: i records are put.
+use Prim.Native.Nat.{_-_, _≤_}
+use mathlib.Core.Path.{_≡_, refl, _∙_}
+use native.Mathlib.Omega.{arith}
+use lib.ListN.{length}
+use Rattle.paper.specs.File.{putRecords}
+use Rattle.pack.proofs.Steps.{records-turn, records-done}
+use Rattle.pack.proofs.put_records.Statement.{statement}
+use Rattle.pack.proofs.put_records.Tie as tie
+
+abbrev Inv-loop : tie.InvT-loop
+Inv-loop s₀ n rs i₀ s i = (i ≤ n) × (length s ≡ length s₀) × (s ≡ putRecords s₀ rs i)
+
+abbrev μ-loop : tie.MeasureT-loop
+μ-loop s₀ n rs i₀ s i = n - i
+
+loop-holds : tie.Need-loop-holds Inv-loop μ-loop
+unfolding putRecords
+loop-holds c = (omega arith, refl, refl)
+
+mul-put-record : tie.Need-mul-put-record Inv-loop μ-loop
+mul-put-record c = omega arith
+
+array-copy-out-put-record : tie.Need-array-copy-out-put-record Inv-loop μ-loop
+array-copy-out-put-record c = omega arith
+
+put-record-requires : tie.Need-put-record-requires Inv-loop μ-loop
+put-record-requires c κs = omega arith
+
+add-i : tie.Need-add-i Inv-loop μ-loop
+add-i c = omega arith
+
+loop-less : tie.Need-loop-less Inv-loop μ-loop
+loop-less c = omega arith
+
+loop-again : tie.Need-loop-again Inv-loop μ-loop
+loop-again c =
+    let l = c .before .before .before .before .before .before .loop in
+    let p = c .before .before .put-record in
+    (omega arith, p .kept .0 ∙ l .inv .1, records-turn _ _ (l .i) (l .inv .2) (p .ensures))
+
+same-length : tie.Need-same-length Inv-loop μ-loop
+same-length c = c .before .loop .inv .1
+
+returns : tie.Need-returns Inv-loop μ-loop
+returns c = records-done _ _ (c .before .loop .i) _ (c .before .loop .inv .2) (omega arith)
+
+pub put-records-spec : {M : Type 1} → statement M
+put-records-spec =
+    tie.close
+    (tie.spec
+    Inv-loop
+    μ-loop
+    loop-holds
+    mul-put-record
+    array-copy-out-put-record
+    put-record-requires
+    add-i
+    loop-less
+    loop-again
+    same-length
+    returns)

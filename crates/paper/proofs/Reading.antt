@@ -1,0 +1,132 @@
+-- Reading a file: what is known of a file that was read, and that nothing else keeps a file from being read.
+use Prim.{Unit, tt}
+use mathlib.Core.Path.{_≡_, refl, ap}
+use mathlib.Core.Bool.{Bool, true, false, not, _&&_}
+use mathlib.Core.List.{List, [], _∷_}
+use Prim.Native.Nat.{ℕ, _-_, _≤_}
+use native.Mathlib.Omega.{arith}
+use borrow.Author.Tests.{leb-true, ltb-false, eqb-true, not-false, le-leb, le-ltb, eq-eqb}
+use lib.Dec.{leb, eqb}
+use lib.ListN.{length}
+use Rattle.paper.specs.Numbers.{mostTasks, mostWords, countsInRange, tasksInRange, recordsInRange, assignmentHolds}
+use Rattle.paper.specs.File.{editionIn, cabinetIn, lineIn, tasksIn, wordsIn, shortest, fileLength, sealed, spareClear, recordsIn, regionWords}
+use Rattle.paper.specs.Regions.{allRegionsHold}
+use Rattle.paper.specs.Refusals.{Asks, firstOf, fileAsks, readAsks}
+use Rattle.paper.specs.Answers.{readOutcome}
+use Rattle.paper.specs.declared.Outcome.the-variants.{Done, Refused}
+
+-- A call is done exactly when none of its asks applies.
+abbrev pub NoneApplies : Asks → Type 0
+NoneApplies [] = Unit {0}
+NoneApplies (ask ∷ asks) = (ask .1 ≡ false) × NoneApplies asks
+
+pub done-none : (asks : Asks) → firstOf asks ≡ Done → NoneApplies asks
+done-none [] e = tt
+done-none ((r, true) ∷ asks) e = let z : _≡_ {A = ℕ} 0 1 = cc in absurd (omega arith)
+done-none ((r, false) ∷ asks) e = (refl, done-none asks e)
+
+pub none-done : (asks : Asks) → NoneApplies asks → firstOf asks ≡ Done
+none-done [] h = refl
+none-done (ask ∷ asks) h = rw (h .0) (none-done asks (h .1))
+
+-- What is known of a file that was read for a cabinet and a line, with a catalogue, into room for so many words.
+pub record Loaded (f : List ℕ) (cabinet line : ℕ) (catalogue : List ℕ) (room : ℕ) : Type 0 where
+  pub long : shortest ≤ length f
+  pub edition : editionIn f ≡ 1
+  -- it is the plate's
+  pub cabinets : cabinetIn f ≡ cabinet
+  pub lines : lineIn f ≡ line
+  pub some-tasks : 1 ≤ tasksIn f
+  pub few-tasks : tasksIn f ≤ mostTasks
+  pub few-words : wordsIn f ≤ mostWords
+  pub size : length f ≡ fileLength (tasksIn f) (wordsIn f)
+  pub seal : sealed f (length f - 2) ≡ true
+  pub spare : spareClear f (tasksIn f) (wordsIn f) ≡ true
+  pub ranges : recordsInRange (recordsIn f (tasksIn f)) (tasksIn f) ≡ true
+  pub assignment : assignmentHolds (recordsIn f (tasksIn f)) (tasksIn f) ≡ true
+  pub regions : allRegionsHold (recordsIn f (tasksIn f)) (tasksIn f) (regionWords f (tasksIn f) (wordsIn f)) catalogue ≡ true
+  pub fits : wordsIn f ≤ room
+
+both : (a b : Bool) → (a && b) ≡ true → (a ≡ true) × (b ≡ true)
+both true b e = (refl, e)
+both false b e = let z : _≡_ {A = ℕ} 0 1 = cc in absurd (omega arith)
+
+module _ (f : List ℕ) (cabinet line : ℕ) (catalogue : List ℕ) (room : ℕ) where
+  -- What was read is as it should be.
+  pub read-says : readOutcome f cabinet line catalogue room ≡ Done → Loaded f cabinet line catalogue room
+  read-says e =
+      let a1 = done-none (readAsks f cabinet line catalogue room) e in
+      let a2 = a1 .1 in
+      let a3 = a2 .1 in
+      let a4 = a3 .1 in
+      let a5 = a4 .1 in
+      let a6 = a5 .1 in
+      let a7 = a6 .1 in
+      let a8 = a7 .1 in
+      let a9 = a8 .1 in
+      let a10 = a9 .1 in
+      let a11 = a10 .1 in
+      let a12 = a11 .1 in
+      let counts = both (tasksInRange (tasksIn f)) (leb (wordsIn f) mostWords) (not-false (countsInRange (tasksIn f) (wordsIn f)) (a5 .0)) in
+      let tasks = both (leb 1 (tasksIn f)) (leb (tasksIn f) mostTasks) (counts .0) in
+      record {
+        long = ltb-false (length f) shortest (a1 .0);
+        edition = eqb-true (editionIn f) 1 (not-false _ (a2 .0));
+        cabinets = eqb-true (cabinetIn f) cabinet (not-false _ (a3 .0));
+        lines = eqb-true (lineIn f) line (not-false _ (a4 .0));
+        some-tasks = leb-true 1 (tasksIn f) (tasks .0);
+        few-tasks = leb-true (tasksIn f) mostTasks (tasks .1);
+        few-words = leb-true (wordsIn f) mostWords (counts .1);
+        size = eqb-true (length f) (fileLength (tasksIn f) (wordsIn f)) (not-false _ (a6 .0));
+        seal = not-false _ (a7 .0);
+        spare = not-false _ (a8 .0);
+        ranges = not-false _ (a9 .0);
+        assignment = not-false _ (a10 .0);
+        regions = not-false _ (a11 .0);
+        fits = ltb-false room (wordsIn f) (a12 .0);
+      }
+
+  -- And a file that is as it should be is read.
+  pub read-done : Loaded f cabinet line catalogue room → readOutcome f cabinet line catalogue room ≡ Done
+  read-done l =
+      none-done (readAsks f cabinet line catalogue room) (
+        le-ltb (length f) shortest (l .long),
+        (
+          ap not (eq-eqb (editionIn f) 1 (l .edition)),
+          (
+            ap not (eq-eqb (cabinetIn f) cabinet (l .cabinets)),
+            (
+              ap not (eq-eqb (lineIn f) line (l .lines)),
+              (
+                rw (le-leb 1 (tasksIn f) (l .some-tasks), le-leb (tasksIn f) mostTasks (l .few-tasks), le-leb (wordsIn f) mostWords (l .few-words)),
+                (
+                  ap not (eq-eqb (length f) (fileLength (tasksIn f) (wordsIn f)) (l .size)),
+                  (
+                    ap not (l .seal),
+                    (
+                      ap not (l .spare),
+                      (
+                        ap not (l .ranges),
+                        (
+                          ap not (l .assignment),
+                          (
+                            ap not (l .regions),
+                            (
+                              le-ltb room (wordsIn f) (l .fits),
+                              tt,
+                            ),
+                          ),
+                        ),
+                      ),
+                    ),
+                  ),
+                ),
+              ),
+            ),
+          ),
+        ),
+      )
+
+  -- One cabinet, one file: a file whose cabinet or line is not the one on the plate is never loaded.
+  pub one-cabinet : readOutcome f cabinet line catalogue room ≡ Done → (cabinetIn f ≡ cabinet) × (lineIn f ≡ line)
+  one-cabinet e = let l = read-says e in (l .cabinets, l .lines)

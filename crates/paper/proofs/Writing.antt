@@ -1,0 +1,68 @@
+-- Writing a table: what is known of a table that the writer takes, and that nothing else keeps a table from being written.
+use Prim.{tt}
+use mathlib.Core.Path.{_≡_, ap}
+use mathlib.Core.Bool.{true, not, and-eq-true-iff}
+use mathlib.Core.List.{List}
+use Prim.Native.Nat.{ℕ, _≤_}
+use borrow.Author.Tests.{leb-true, ltb-false, not-false, le-leb, le-ltb}
+use lib.Dec.{leb}
+use lib.ListN.{length}
+use Rattle.paper.specs.Numbers.{mostTasks, mostWords, mostCabinet, tasksInRange, countsInRange, recordsInRange, assignmentHolds}
+use Rattle.paper.specs.File.{fileLength}
+use Rattle.paper.specs.Regions.{allRegionsHold}
+use Rattle.paper.specs.Refusals.{writeAsks}
+use Rattle.paper.specs.Answers.{writeOutcome}
+use Rattle.paper.specs.declared.Outcome.the-variants.{Done}
+use Rattle.paper.specs.declared.Table.{Table}
+use Rattle.paper.proofs.Reading.{done-none, none-done}
+
+-- What is known of a table that is written for a cabinet, with its region words and a catalogue, into room for so many bytes.
+pub record Taken (t : Table) (cabinet : ℕ) (own catalogue : List ℕ) (room : ℕ) : Type 0 where
+  pub some-tasks : 1 ≤ t .n
+  pub few-tasks : t .n ≤ mostTasks
+  pub few-words : length own ≤ mostWords
+  pub cabinets : cabinet ≤ mostCabinet
+  pub ranges : recordsInRange (t .records) (t .n) ≡ true
+  pub assignment : assignmentHolds (t .records) (t .n) ≡ true
+  pub regions : allRegionsHold (t .records) (t .n) own catalogue ≡ true
+  pub fits : fileLength (t .n) (length own) ≤ room
+
+module _ (t : Table) (cabinet : ℕ) (own catalogue : List ℕ) (room : ℕ) where
+  pub write-says : writeOutcome t cabinet own catalogue room ≡ Done → Taken t cabinet own catalogue room
+  write-says e =
+      let a5 = done-none (writeAsks t cabinet own catalogue room) e in
+      let a9 = a5 .1 in
+      let a10 = a9 .1 in
+      let a11 = a10 .1 in
+      let counts = and-eq-true-iff (tasksInRange (t .n)) (leb (length own) mostWords) .0 (not-false (countsInRange (t .n) (length own)) (a5 .0)) in
+      let tasks = and-eq-true-iff (leb 1 (t .n)) (leb (t .n) mostTasks) .0 (counts .0) in
+      let numbers = and-eq-true-iff (leb cabinet mostCabinet) (recordsInRange (t .records) (t .n)) .0 (not-false _ (a9 .0)) in
+      record {
+        some-tasks = leb-true 1 (t .n) (tasks .0);
+        few-tasks = leb-true (t .n) mostTasks (tasks .1);
+        few-words = leb-true (length own) mostWords (counts .1);
+        cabinets = leb-true cabinet mostCabinet (numbers .0);
+        ranges = numbers .1;
+        assignment = not-false _ (a10 .0);
+        regions = not-false _ (a11 .0);
+        fits = ltb-false room (fileLength (t .n) (length own)) (a11 .1 .0);
+      }
+
+  pub write-done : Taken t cabinet own catalogue room → writeOutcome t cabinet own catalogue room ≡ Done
+  write-done w =
+      none-done (writeAsks t cabinet own catalogue room) (
+        rw (le-leb 1 (t .n) (w .some-tasks), le-leb (t .n) mostTasks (w .few-tasks), le-leb (length own) mostWords (w .few-words)),
+        (
+          rw (le-leb cabinet mostCabinet (w .cabinets)) (ap not (w .ranges)),
+          (
+            ap not (w .assignment),
+            (
+              ap not (w .regions),
+              (
+                le-ltb room (fileLength (t .n) (length own)) (w .fits),
+                tt,
+              ),
+            ),
+          ),
+        ),
+      )

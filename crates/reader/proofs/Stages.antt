@@ -1,0 +1,126 @@
+-- The stages of reading: what each asks is the paper's list, and together they are all of it and the answer.
+use mathlib.Core.Path.{_≡_, refl, sym, ap, _∙_}
+use mathlib.Core.Bool.{Bool, not, cond}
+use mathlib.Core.List.{List, [], _∷_, _++_}
+use Prim.Native.Nat.{ℕ, _-_, _≤_, _<_}
+use native.Mathlib.Omega.{arith}
+use borrow.Author.Tests.{leb-true, ltb-false, eqb-true, not-false, lt-ltb, le-ltb}
+use lib.Dec.{leb, ltb, eqb}
+use lib.ListN.{length, drop}
+use Rattle.paper.specs.Numbers.{mostTasks, mostWords, tasksInRange, countsInRange, recordsInRange, assignmentHolds}
+use Rattle.paper.specs.File.{editionIn, cabinetIn, lineIn, tasksIn, wordsIn, shortest, fileLength, sealed, spareClear, recordsIn, regionWords}
+use Rattle.paper.specs.Regions.{allRegionsHold}
+use Rattle.paper.specs.Refusals.{firstOf, noRoom, fileAsks, readAsks}
+use Rattle.paper.specs.Answers.{noTable, tableFor, wordsFor, readAnswer, readOut}
+use Rattle.paper.specs.declared.Record.{Record}
+use Rattle.paper.specs.declared.Table.{Table}
+use Rattle.paper.specs.declared.Refusal.{Refusal}
+use Rattle.paper.specs.declared.Refusal.the-variants.{Short, WrongEdition, WrongCabinet, WrongLine, WrongCounts, WrongLength, WrongSeal, SpareBitSet, OutOfRange, BadAssignment, BadRegions, NoRoom}
+use Rattle.paper.specs.declared.Outcome.{Outcome}
+use Rattle.paper.specs.declared.Outcome.the-variants.{Done, Refused}
+use Rattle.paper.specs.declared.ReadAnswer.{ReadAnswer}
+use Rattle.paper.proofs.Reading.{done-none}
+use Rattle.laws.proofs.Every.{both}
+use Rattle.checks.proofs.Asks.{first-passed, first-refused, first-done}
+use Rattle.unpack.specs.Unpack.{Sized}
+use Rattle.unpack.proofs.Words.{words-length}
+use Rattle.reader.specs.Stages.{headAsks, bodyAsks, Unpacked}
+
+-- The head's asks, of the fields as they were got.
+pub head-short : (f : List ℕ) (cabinet line : ℕ) → length f < shortest → Refused Short ≡ firstOf (headAsks f cabinet line)
+head-short f cabinet line h = rw (lt-ltb (length f) shortest h)
+
+pub head-asked : (f : List ℕ) (cabinet line : ℕ) {e k l n m : ℕ} {counts : Bool} {x2 x3 x4 x5 x6 : Outcome}
+    → shortest ≤ length f → e ≡ editionIn f → k ≡ cabinetIn f → l ≡ lineIn f → n ≡ tasksIn f → m ≡ wordsIn f
+    → x6 ≡ cond (not (eqb (length f) (fileLength n m))) (Refused WrongLength) Done
+    → counts ≡ countsInRange n m → x5 ≡ cond (not counts) (Refused WrongCounts) x6
+    → x4 ≡ cond (not (eqb l line)) (Refused WrongLine) x5
+    → x3 ≡ cond (not (eqb k cabinet)) (Refused WrongCabinet) x4
+    → x2 ≡ cond (not (eqb e 1)) (Refused WrongEdition) x3
+    → x2 ≡ firstOf (headAsks f cabinet line)
+head-asked f cabinet line long e k l n m e6 c e5 e4 e3 e2 = rw (le-ltb (length f) shortest long, e2, e3, e4, e5, c, e6, e, k, l, n, m)
+
+-- The other asks, of what was unpacked.
+pub body-asked : (f catalogue : List ℕ) (room : ℕ) {n m : ℕ} {rs : List Record} {own : List ℕ} {s p r a g : Bool} {x7 x8 x9 x10 x11 x12 : Outcome}
+    → Unpacked f n m rs own
+    → x12 ≡ cond (ltb room m) (Refused NoRoom) Done
+    → g ≡ allRegionsHold rs n own catalogue → x11 ≡ cond (not g) (Refused BadRegions) x12
+    → a ≡ assignmentHolds rs n → x10 ≡ cond (not a) (Refused BadAssignment) x11
+    → r ≡ recordsInRange rs n → x9 ≡ cond (not r) (Refused OutOfRange) x10
+    → p ≡ spareClear f n m → x8 ≡ cond (not p) (Refused SpareBitSet) x9
+    → s ≡ sealed f (length f - 2) → x7 ≡ cond (not s) (Refused WrongSeal) x8
+    → x7 ≡ firstOf (bodyAsks f catalogue room)
+body-asked f catalogue room u e12 g e11 a e10 r e9 p e8 s e7 =
+    rw (e7, s, e8, p, e9, r, e10, a, e11, g, e12, u .records, u .regions, u .tasks, u .words)
+
+-- What was unpacked: the own words are few enough to be asked.
+pub own-few : {f : List ℕ} {n m : ℕ} {rs : List Record} {own : List ℕ} → Unpacked f n m rs own → length own ≤ mostWords
+own-few {f} {n} {m} u = rw (u .regions, words-length f n m) (u .sized .words)
+
+-- Once the head passes, the counts and the length fit.
+pub head-says : (f : List ℕ) (cabinet line : ℕ) → firstOf (headAsks f cabinet line) ≡ Done → Sized f (tasksIn f) (wordsIn f)
+head-says f cabinet line e =
+    let asks = done-none (headAsks f cabinet line) e .1 .1 .1 .1 in
+    let counts = both (tasksInRange (tasksIn f)) (leb (wordsIn f) mostWords) (not-false _ (asks .0)) in
+    record {
+      tasks = leb-true (tasksIn f) mostTasks (both (leb 1 (tasksIn f)) (leb (tasksIn f) mostTasks) (counts .0) .1);
+      words = leb-true (wordsIn f) mostWords (counts .1);
+      long = eqb-true (length f) (fileLength (tasksIn f) (wordsIn f)) (not-false _ (asks .1 .0));
+    }
+
+-- Once the rest passes, the words fit the output.
+pub room-fits : (f catalogue : List ℕ) (room : ℕ) {n m : ℕ} {rs : List Record} {own : List ℕ} {o : Outcome} → Unpacked f n m rs own
+    → o ≡ firstOf (bodyAsks f catalogue room) → o ≡ Done → length own ≤ room
+room-fits f catalogue room {n} {m} u e k =
+    let h = ltb-false room (wordsIn f) (done-none (bodyAsks f catalogue room) (sym e ∙ k) .1 .1 .1 .1 .1 .0) in
+    rw (u .regions, words-length f n m, u .words) h
+
+-- The outcome o was found. A refusal is the whole answer, and the output stays.
+pub turned-away : (o : Outcome) (f out : List ℕ) {r : Refusal} {x : Outcome} {a : ReadAnswer} → x ≡ o → x ≡ Refused r
+    → (a .outcome ≡ Refused r) × (a .table ≡ noTable) → (a ≡ tableFor o f) × (out ≡ wordsFor o f out)
+turned-away o f out e k h = rw (← e, k) (λ i. record { outcome = h .0 i; table = h .1 i }, refl)
+
+-- And else what was unpacked and put is the answer.
+pub answered : (o : Outcome) (f out : List ℕ) (n m : ℕ) (t : Table) (own : List ℕ) {x : Outcome} {out' : List ℕ} → x ≡ o → x ≡ Done
+    → Unpacked f n m (t .records) own → t .n ≡ n → out' ≡ own ++ drop (length own) out
+    → (_≡_ {A = ReadAnswer} (record { outcome = Done; table = t }) (tableFor o f)) × (out' ≡ wordsFor o f out)
+answered o f out n m t own {out' = out'} e k u s h =
+    let tasks : t .n ≡ tasksIn f = s ∙ u .tasks in
+    let records : t .records ≡ recordsIn f (tasksIn f) = u .records ∙ ap (λ (k : ℕ). recordsIn f k) (u .tasks) in
+    let words : out' ≡ regionWords f (tasksIn f) (wordsIn f) ++ drop (wordsIn f) out =
+    h ∙ rw (u .regions, words-length f n m, u .tasks, u .words) in
+    rw (← e, k) (λ i. record { outcome = Done; table = record { n = tasks i; records = records i } }, words)
+
+-- The head turns the file away, or the rest has the answer.
+pub read-stops : (f : List ℕ) (cabinet line : ℕ) (catalogue out : List ℕ) (r : Refusal) {o : Outcome} {a : ReadAnswer}
+    → o ≡ firstOf (headAsks f cabinet line) → o ≡ Refused r → (a .outcome ≡ Refused r) × (a .table ≡ noTable)
+    → (a ≡ readAnswer f cabinet line catalogue out) × (out ≡ readOut f cabinet line catalogue out)
+read-stops f cabinet line catalogue out r e k h =
+    turned-away (firstOf (readAsks f cabinet line catalogue (length out))) f out refl
+    (first-refused (headAsks f cabinet line) (bodyAsks f catalogue (length out)) r (sym e ∙ k)) h
+
+pub read-goes-on : (f : List ℕ) (cabinet line : ℕ) (catalogue out : List ℕ) {o : Outcome} {a : ReadAnswer} {x : List ℕ}
+    → o ≡ firstOf (headAsks f cabinet line) → o ≡ Done
+    → (a ≡ tableFor (firstOf (bodyAsks f catalogue (length out))) f) × (x ≡ wordsFor (firstOf (bodyAsks f catalogue (length out))) f out)
+    → (a ≡ readAnswer f cabinet line catalogue out) × (x ≡ readOut f cabinet line catalogue out)
+read-goes-on f cabinet line catalogue out e k h =
+    let s : firstOf (readAsks f cabinet line catalogue (length out)) ≡ firstOf (bodyAsks f catalogue (length out)) =
+    first-passed (headAsks f cabinet line) (bodyAsks f catalogue (length out)) (sym e ∙ k) in
+    (h .0 ∙ ap (λ (o : Outcome). tableFor o f) (sym s), h .1 ∙ ap (λ (o : Outcome). wordsFor o f out) (sym s))
+
+-- Where there is room for the words of any file, 12 is never the answer.
+pub any-room : (f : List ℕ) (cabinet line : ℕ) (catalogue : List ℕ) (room : ℕ) → mostWords ≤ room
+    → firstOf (readAsks f cabinet line catalogue room) ≡ firstOf (fileAsks f cabinet line catalogue)
+any-room f cabinet line catalogue room h = go (firstOf (fileAsks f cabinet line catalogue)) refl
+  where
+    go : (o : Outcome) → firstOf (fileAsks f cabinet line catalogue) ≡ o
+        → firstOf (readAsks f cabinet line catalogue room) ≡ firstOf (fileAsks f cabinet line catalogue)
+    go Done e =
+        let head = first-done (headAsks f cabinet line) (drop 6 (fileAsks f cabinet line catalogue)) e .0 in
+        let few = head-says f cabinet line head .words in
+        first-passed (fileAsks f cabinet line catalogue) (noRoom room (wordsIn f) ∷ []) e ∙ rw (le-ltb room (wordsIn f) (omega arith)) (sym e)
+    go (Refused r) e = first-refused (fileAsks f cabinet line catalogue) (noRoom room (wordsIn f) ∷ []) r e ∙ sym e
+
+pub outcome-read : (f : List ℕ) (cabinet line : ℕ) (catalogue out : List ℕ) {a : ReadAnswer} → a ≡ readAnswer f cabinet line catalogue out
+    → mostWords ≤ length out → a .outcome ≡ firstOf (fileAsks f cabinet line catalogue)
+outcome-read f cabinet line catalogue out e h = rw e (any-room f cabinet line catalogue (length out) h)

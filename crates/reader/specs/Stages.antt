@@ -1,0 +1,25 @@
+-- Reading in two stages: the head is asked first, and only a file of the right size is unpacked and asked on.
+use Prim.Native.Nat.{ℕ}
+use mathlib.Core.Path.{_≡_}
+use mathlib.Core.List.{List, []}
+use lib.ListN.{take, drop}
+use Rattle.paper.specs.File.{tasksIn, wordsIn, recordsIn, regionWords}
+use Rattle.paper.specs.Refusals.{Asks, fileAsks, readAsks}
+use Rattle.paper.specs.declared.Record.{Record}
+use Rattle.unpack.specs.Unpack.{Sized}
+
+-- asks 1 to 6, in which no catalogue plays a part
+abbrev pub headAsks : List ℕ → ℕ → ℕ → Asks
+headAsks f cabinet line = take 6 (fileAsks f cabinet line [])
+
+-- asks 7 to 12, in which the plate plays no part
+abbrev pub bodyAsks : List ℕ → List ℕ → ℕ → Asks
+bodyAsks f catalogue room = drop 6 (readAsks f 0 0 catalogue room)
+
+-- what was unpacked of the file f: its counts, its records and its own region words
+pub record Unpacked (f : List ℕ) (n m : ℕ) (rs : List Record) (own : List ℕ) : Type 0 where
+  pub sized : Sized f n m
+  pub tasks : n ≡ tasksIn f
+  pub words : m ≡ wordsIn f
+  pub records : rs ≡ recordsIn f n
+  pub regions : own ≡ regionWords f n m

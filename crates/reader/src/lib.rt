@@ -1,0 +1,149 @@
+// Reading a cabinet file: the refusals in the paper's order, the table, and the region words.
+ghost use mathlib.Core.Path.{_≡_};
+ghost use mathlib.Core.List.{_++_};
+ghost use Prim.Native.Nat.{_≤_};
+ghost use lib.ListN.{length, drop};
+ghost use Rattle.paper.specs.File.{tasksIn, wordsIn};
+ghost use Rattle.paper.specs.Refusals.{firstOf, fileAsks};
+ghost use Rattle.paper.specs.Answers.{noTable, tableFor, wordsFor, readAnswer, readOut};
+ghost use Rattle.paper.specs.declared.Outcome.the-variants.{Refused};
+ghost use Rattle.unpack.specs.Unpack.{Sized};
+ghost use Rattle.reader.specs.Stages.{headAsks, bodyAsks, Unpacked};
+use paper::Cabinet;
+use paper::Line;
+use paper::Outcome;
+use paper::ReadAnswer;
+use paper::Record;
+use paper::Refusal;
+
+// Asks 1 to 6.
+fn head(file: &[u8], cabinet: u32, line: u16) -> Outcome
+    ensures { λ x. ⌜ x ≡ firstOf (headAsks (now (file .entry)) cabinet line) ⌝ }
+{
+    if file.len() < 22 {
+        return Outcome::Refused(Refusal::Short);
+    }
+    let edition = bits::get(file, 0, 4);
+    let its_cabinet = bits::get(file, 8, 24);
+    let its_line = bits::get(file, 32, 16);
+    let n = bits::get(file, 48, 8) as usize;
+    let m = bits::get(file, 56, 8) as usize;
+    let size = 8 + 12 * n + (20 * m + 7) / 8 + 2;
+    let length = checks::ask(file.len() != size, Refusal::WrongLength, Outcome::Done);
+    let counts = checks::ask(!checks::counts_in_range(n, m), Refusal::WrongCounts, length);
+    let lines = checks::ask(its_line != line as u64, Refusal::WrongLine, counts);
+    let cabinets = checks::ask(its_cabinet != cabinet as u64, Refusal::WrongCabinet, lines);
+    checks::ask(edition != 1, Refusal::WrongEdition, cabinets)
+}
+
+// Asks 7 to 12, of what was unpacked.
+fn body(
+    file: &[u8],
+    n: usize,
+    m: usize,
+    rs: [Record; paper::MOST_TASKS],
+    own: &[u32],
+    catalogue: &[u32],
+    room: usize,
+) -> Outcome
+    requires { ⌜ Unpacked (now file) n m rs (now own) ⌝ }
+    ensures { λ x. ⌜ x ≡ firstOf (bodyAsks (now (file .entry)) (now (catalogue .entry)) room) ⌝ }
+{
+    let end = file.len() - 2;
+    let no_room = checks::ask(room < m, Refusal::NoRoom, Outcome::Done);
+    let regions = checks::ask(
+        !checks::all_regions_hold(rs, n, own, catalogue),
+        Refusal::BadRegions,
+        no_room,
+    );
+    let assignment = checks::ask(
+        !checks::assignment_holds(rs, n),
+        Refusal::BadAssignment,
+        regions,
+    );
+    let ranges = checks::ask(
+        !checks::records_in_range(rs, n),
+        Refusal::OutOfRange,
+        assignment,
+    );
+    let spare = checks::ask(
+        !unpack::spare_clear(file, n, m),
+        Refusal::SpareBitSet,
+        ranges,
+    );
+    checks::ask(!seal::is_sealed(file, end), Refusal::WrongSeal, spare)
+}
+
+fn refused(r: Refusal) -> ReadAnswer
+    ensures { λ x. ⌜ (x .outcome ≡ Refused r) × (x .table ≡ noTable) ⌝ }
+{
+    let t = unpack::no_table();
+    ReadAnswer {
+        outcome: Outcome::Refused(r),
+        table: t,
+    }
+}
+
+// The words go to the front of the output; the rest of it stays.
+fn put_words(out: &mut [u32], ws: &[u32])
+    requires { ⌜ length (now ws) ≤ length (now out) ⌝ }
+    ensures { λ _. ⌜ now (out .exit) ≡ now (ws .entry) ++ drop (length (now (ws .entry))) (now (out .entry)) ⌝ }
+{
+    let mut i: usize = 0;
+    while i < ws.len() {
+        out[i] = ws[i];
+        i += 1;
+    }
+}
+
+// After the head: all is unpacked once and asked, and only then is the output written.
+fn rest(file: &[u8], catalogue: &[u32], out: &mut [u32]) -> ReadAnswer
+    requires { ⌜ Sized (now file) (tasksIn (now file)) (wordsIn (now file)) ⌝ }
+    ensures { λ r. ⌜ r ≡ tableFor (firstOf (bodyAsks (now (file .entry)) (now (catalogue .entry)) (length (now (out .entry))))) (now (file .entry)) ⌝ }
+    ensures { λ _. ⌜ now (out .exit) ≡ wordsFor (firstOf (bodyAsks (now (file .entry)) (now (catalogue .entry)) (length (now (out .entry))))) (now (file .entry)) (now (out .entry)) ⌝ }
+{
+    let n = bits::get(file, 48, 8) as usize;
+    let m = bits::get(file, 56, 8) as usize;
+    let t = unpack::table_in(file, n);
+    let rs = t.records;
+    let ws = unpack::words_in(file, n, m);
+    let room = out.len();
+    let outcome = body(file, n, m, rs, &ws[..m], catalogue, room);
+    match outcome {
+        Outcome::Refused(r) => refused(r),
+        Outcome::Done => {
+            put_words(out, &ws[..m]);
+            ReadAnswer {
+                outcome: Outcome::Done,
+                table: t,
+            }
+        }
+    }
+}
+
+// The file, read for the cabinet and the line on the plate: its table, and its region words in the output.
+pub fn read(
+    file: &[u8],
+    cabinet: Cabinet,
+    line: Line,
+    catalogue: &[u32],
+    out: &mut [u32],
+) -> ReadAnswer
+    ensures { λ r. ⌜ r ≡ readAnswer (now (file .entry)) (cabinet .0) (line .0) (now (catalogue .entry)) (now (out .entry)) ⌝ }
+    ensures { λ _. ⌜ now (out .exit) ≡ readOut (now (file .entry)) (cabinet .0) (line .0) (now (catalogue .entry)) (now (out .entry)) ⌝ }
+{
+    let outcome = head(file, cabinet.0, line.0);
+    match outcome {
+        Outcome::Refused(r) => refused(r),
+        Outcome::Done => rest(file, catalogue, out),
+    }
+}
+
+// Asks 1 to 11. There is room for the words of any file here, so that 12 is never the answer.
+pub fn file_outcome(file: &[u8], cabinet: u32, line: u16, catalogue: &[u32]) -> Outcome
+    ensures { λ x. ⌜ x ≡ firstOf (fileAsks (now (file .entry)) cabinet line (now (catalogue .entry))) ⌝ }
+{
+    let mut room = [0u32; 100];
+    let answer = read(file, Cabinet(cabinet), Line(line), catalogue, &mut room);
+    answer.outcome
+}

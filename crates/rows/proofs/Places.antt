@@ -1,0 +1,125 @@
+-- Where a record number stands in an order, and a row place by place.
+use Prim.Native.Nat.{ℕ, suc, _+_, _-_, _<_, _≤_}
+use native.Mathlib.Decide.{decLe}
+use native.Mathlib.Numerals.{add-one}
+use native.Mathlib.Omega.{arith}
+use mathlib.Core.Path.{_≡_, sym, ap, ap₂, _∙_}
+use mathlib.Core.Bool.{Bool, true, false, not, cond, _&&_}
+use mathlib.Core.List.{List, [], _∷_}
+use mathlib.Core.Logic.{by-cases}
+use lib.Dec.{leb, eqb}
+use lib.ListN.{length, take, drop, getD, length-take, drop-of-length-le}
+use lib.Seq.{getD-take, take-take, length-take-le, drop-cons}
+use borrow.Author.Tests.{eq-eqb, ne-eqb, eqb-true, lt-ltb, le-ltb, le-leb}
+use Rattle.paper.specs.Vocabulary.{every}
+use Rattle.paper.specs.Numbers.{eachOnce, thresholdsHold}
+use Rattle.paper.specs.Rows.{rowSize, placeOf, rowAssignment, rowHolds}
+use Rattle.laws.specs.Order.{Within}
+use Rattle.laws.proofs.Every.{both, every-says, every-same}
+use Rattle.laws.proofs.Order.{within-all}
+use Rattle.columns.proofs.Fair.{each-once-range, threshold-range}
+use Rattle.rows.specs.Places.{freshAt, fitsAt}
+
+-- what is left of an order after i places: the turn of a loop that looks for v
+module _ (n : ℕ) (d : List ℕ) (fits : n ≤ length d) (i v : ℕ) where
+  place-rest : i < n → drop i (take n d) ≡ getD d i 0 ∷ drop (suc i) (take n d)
+  place-rest l =
+      drop-cons (take n d) i 0 (rw (length-take-le n d fits) l)
+      ∙ ap (λ (x : ℕ). x ∷ drop (suc i) (take n d)) (getD-take n d i 0 l)
+
+  pub place-hit : i < n → getD d i 0 ≡ v → placeOf (drop i (take n d)) v ≡ 1
+  unfolding placeOf
+  place-hit l e = rw (place-rest l, eq-eqb (getD d i 0) v e)
+
+  pub place-miss : i < n → (getD d i 0 ≡ v → ⊥) → placeOf (drop i (take n d)) v ≡ 1 + placeOf (drop (i + 1) (take n d)) v
+  unfolding placeOf
+  place-miss l e = rw (add-one i, place-rest l, ne-eqb (getD d i 0) v e) (omega arith)
+
+  pub place-none : n ≤ i → placeOf (drop i (take n d)) v ≡ 0
+  unfolding placeOf
+  place-none l = rw (drop-of-length-le (take n d) {i = i} (rw (length-take-le n d fits) l))
+
+-- a place is counted from 1, up to the length of the order
+pub place-most : (order : List ℕ) (v : ℕ) → placeOf order v ≤ length order
+unfolding placeOf
+place-most [] v = omega arith
+place-most (a ∷ order) v = go (eqb a v) (place-most order v)
+  where
+    go : (b : Bool) → placeOf order v ≤ length order → cond b 1 (suc (placeOf order v)) ≤ suc (length order)
+    go true h = omega arith
+    go false h = omega arith
+
+pub place-least : (order : List ℕ) (v : ℕ) → 1 ≤ length order → 1 ≤ placeOf order v
+unfolding placeOf
+place-least [] v h = absurd (omega arith)
+place-least (a ∷ order) v h = go (eqb a v)
+  where
+    go : (b : Bool) → 1 ≤ cond b 1 (suc (placeOf order v))
+    go true = omega arith
+    go false = omega arith
+
+-- What a well-formed row is.
+pub record Formed (n : ℕ) (row : List ℕ) : Type 0 where
+  pub size : length row ≡ rowSize n
+  pub order : eachOnce n (λ i. getD row i 0) ≡ true
+  pub thresholds : thresholdsHold n (rowAssignment n row) ≡ true
+
+pub formed : (n : ℕ) (row : List ℕ) → rowHolds n row ≡ true → Formed n row
+unfolding rowHolds
+formed n row h =
+    let a = both (eqb (length row) (rowSize n)) (eachOnce n (λ i. getD row i 0) && thresholdsHold n (rowAssignment n row)) h in
+    let b = both (eachOnce n (λ i. getD row i 0)) (thresholdsHold n (rowAssignment n row)) (a .1) in
+    record { size = eqb-true (length row) (rowSize n) (a .0); order = b .0; thresholds = b .1 }
+
+-- its thresholds, by their places
+formed-threshold : (n : ℕ) (row : List ℕ) → Formed n row → (i : ℕ) → n ≤ i → i < rowSize n
+    → (1 ≤ getD row i 0) × (getD row i 0 ≤ placeOf (take n row) (i - n + 1))
+unfolding rowAssignment
+formed-threshold n row f i l h =
+    let r = threshold-range n (rowAssignment n row) (f .thresholds) (i - n) (omega arith) in
+    let e : n + (i - n) ≡ i = omega arith in
+    rw (add-one (i - n)) (rw e at r)
+
+-- its numbers lie from 1 to n
+pub formed-within : (n : ℕ) (row : List ℕ) → Formed n row → Within n row
+formed-within n row f = within-all n row (λ i h. by-cases (decLe n i) (λ l. high i h l) (λ l. each-once-range n _ (f .order) i (omega arith)))
+  where
+    high : (i : ℕ) → i < length row → n ≤ i → (1 ≤ getD row i 0) × (getD row i 0 ≤ n)
+    high i h l =
+        let t = formed-threshold n row f i l (omega (arith, f .size)) in
+        let m = place-most (take n row) (i - n + 1) in
+        let s = length-take n row in
+        (t .0, omega arith)
+
+-- and each fits where it stands
+once-fresh : (n : ℕ) (f : ℕ → ℕ) → eachOnce n f ≡ true → (k : ℕ) → k < n → every k (λ j. not (eqb (f j) (f k))) ≡ true
+unfolding eachOnce
+once-fresh n f e k h =
+    every-says n (λ k. every k (λ j. not (eqb (f j) (f k))))
+    (both (every n (λ k. leb 1 (f k) && leb (f k) n)) (every n (λ k. every k (λ j. not (eqb (f j) (f k))))) e .1) k h
+
+pub formed-fits : (n : ℕ) (row : List ℕ) → Formed n row → (k : ℕ) → k < rowSize n → fitsAt n row k ≡ true
+unfolding fitsAt freshAt
+formed-fits n row f k h =
+    by-cases (decLe n k)
+    (λ l. rw (le-ltb k n l) (le-leb _ _ (formed-threshold n row f k l h .1)))
+    (λ l. rw (lt-ltb k n (omega arith)) (once-fresh n (λ i. getD row i 0) (f .order) k (omega arith)))
+
+-- Lists that begin alike.
+module _ (k : ℕ) (r d : List ℕ) (e : take k r ≡ take k d) where
+  pub alike-at : (i : ℕ) → i < k → getD r i 0 ≡ getD d i 0
+  alike-at i l = sym (getD-take k r i 0 l) ∙ ap (λ (x : List ℕ). getD x i 0) e ∙ getD-take k d i 0 l
+
+  pub alike-front : (n : ℕ) → n ≤ k → take n r ≡ take n d
+  alike-front n l = sym (take-take n k r l) ∙ ap (λ (x : List ℕ). take n x) e ∙ take-take n k d l
+
+-- what fits is told by the places up to it
+pub fits-alike : (n k : ℕ) (r d : List ℕ) → take (suc k) r ≡ take (suc k) d → fitsAt n r k ≡ fitsAt n d k
+unfolding fitsAt freshAt
+fits-alike n k r d e =
+    let x = alike-at (suc k) r d e k (omega arith) in
+    by-cases (decLe n k)
+    (λ l. rw (le-ltb k n l, x, alike-front (suc k) r d e n (omega arith)))
+    (λ l.
+    rw (lt-ltb k n (omega arith))
+    (every-same k _ _ (λ i h. ap₂ (λ (a b : ℕ). not (eqb a b)) (alike-at (suc k) r d e i (omega arith)) x)))

@@ -1,0 +1,68 @@
+-- The invariant: the first i tolerances are in the array, and the others are 0 still.
+use Prim.Native.Nat.{_-_, _≤_}
+use mathlib.Core.Path.{_≡_, _∙_}
+use mathlib.Core.List.{[]}
+use native.Mathlib.Omega.{arith}
+use lib.IntN.{pos}
+use Rattle.paper.specs.Numbers.{eight}
+use Rattle.paper.specs.Lengths.{tolerance}
+use Rattle.laws.proofs.Lists.{eight-none, eight-turn, eight-done}
+use Rattle.columns.specs.Columns.{tasksBy, assignedBy}
+use Rattle.tolerance.proofs.Machine.{kept}
+use Rattle.tolerance.proofs.all_tolerances.Statement.{statement}
+use Rattle.tolerance.proofs.all_tolerances.Tie as tie
+
+abbrev Inv-loop : tie.InvT-loop
+Inv-loop costs periods deadlines priorities n ticks₀ i₀ ticks i =
+    (i ≤ n) × (ticks ≡ eight i (tolerance (tasksBy n costs periods deadlines) (assignedBy priorities [])) (pos 0))
+
+abbrev μ-loop : tie.MeasureT-loop
+μ-loop costs periods deadlines priorities n ticks₀ i₀ ticks i = n - i
+
+loop-holds : tie.Need-loop-holds Inv-loop μ-loop
+loop-holds c = (omega arith, eight-none _ (pos 0))
+
+tolerance-of-requires : tie.Need-tolerance-of-requires Inv-loop μ-loop
+tolerance-of-requires c κs = (c .before .before .pre, c .loop-test .taken)
+
+signed-requires : tie.Need-signed-requires Inv-loop μ-loop
+signed-requires c κs = (c .tolerance-of .ensures .at, c .tolerance-of .ensures .need)
+
+mul-ticks : tie.Need-mul-ticks Inv-loop μ-loop
+mul-ticks c = omega arith
+
+array-set-from-ticks : tie.Need-array-set-from-ticks Inv-loop μ-loop
+array-set-from-ticks c = omega arith
+
+add-i : tie.Need-add-i Inv-loop μ-loop
+add-i c = omega arith
+
+loop-less : tie.Need-loop-less Inv-loop μ-loop
+loop-less c = omega arith
+
+loop-again : tie.Need-loop-again Inv-loop μ-loop
+loop-again c =
+    let l = c .before .before .before .loop in (
+      omega arith,
+      eight-turn (l .i) _ (pos 0) (omega arith) (l .inv .1)
+          (kept (c .signed .result) (c .signed .ok) (c .signed .ensures ∙ c .before .tolerance-of .ensures .value)),
+    )
+
+returns : tie.Need-returns Inv-loop μ-loop
+returns c = eight-done (c .before .loop .i) (c .before .before .args .n) _ (pos 0) (c .before .loop .inv .1) (omega arith)
+
+pub all-tolerances-spec : {M : Type 1} → statement M
+all-tolerances-spec =
+    tie.close
+    (tie.spec
+    Inv-loop
+    μ-loop
+    loop-holds
+    tolerance-of-requires
+    signed-requires
+    mul-ticks
+    array-set-from-ticks
+    add-i
+    loop-less
+    loop-again
+    returns)

@@ -1,0 +1,61 @@
+-- What the functions that work a tolerance out promise each other.
+use Prim.Native.Nat.{ℕ, _+_, _-_, _*_, _/_, _≤_, _<_, min}
+use mathlib.Core.Path.{_≡_}
+use mathlib.Core.Bool.{Bool, cond}
+use mathlib.Core.List.{List}
+use lib.Dec.{leb, ltb}
+use lib.IntN.{ℤ, subℕ}
+use Rattle.paper.specs.Numbers.{mostTasks, mostTicks, Assignment}
+use Rattle.paper.specs.Analysis.{Tasks, by, load}
+use Rattle.paper.specs.Lengths.{largest, slack, tolerance}
+use Rattle.columns.specs.Columns.{Between}
+use Rattle.tolerance.specs.declared.Slack.{Slack}
+
+-- columns that the walk may run on
+pub record Usable (n : ℕ) (cs ts ds : List ℕ) : Type 0 where
+  pub few : n ≤ mostTasks
+  pub costs : Between 1 mostTicks n cs
+  pub periods : Between 1 mostTicks n ts
+  pub deadlines : Between 1 mostTicks n ds
+
+-- the most that one task adds to a need, and the most that a task and all above it need
+abbrev pub mostPart : ℕ
+mostPart = (mostTicks + 1) * mostTicks
+
+abbrev pub mostNeed : ℕ
+mostNeed = mostTicks + mostTasks * mostPart
+
+-- the signed number that a pair stands for
+abbrev pub valueOf : Slack → ℤ
+valueOf s = subℕ (s .at) (s .need)
+
+-- the larger of two
+unfoldable pub largerOf : Slack → Slack → Slack
+largerOf a b = cond (leb (a .at + b .need) (b .at + a .need)) b a
+
+-- one more task above: the stretch ends at its next arrival after x at the latest, and what it asked for by x is needed
+unfoldable pub withTask : Slack → Bool → ℕ → ℕ → ℕ → Slack
+withTask s above c t x =
+    cond above (record { at = min (s .at) ((1 + x / t) * t); need = s .need + (1 + x / t) * c }) s
+
+-- a stretch of ticks after x in which no ceiling of a task above i steps: its last tick, and what is needed there
+pub record Stretch (y : Tasks) (a : Assignment) (i x : ℕ) (s : Slack) : Type 0 where
+  pub after : x < s .at
+  pub within : s .at ≤ y .d i
+  pub ends : (j : ℕ) → j < y .n → a .p j < a .p i → s .at ≤ by y x j * y .t j
+  pub need : s .need ≡ y .c i + load y (λ j. ltb (a .p j) (a .p i)) (by y x)
+  pub small : s .need ≤ mostTicks + y .n * mostPart
+
+-- the walk has come to tick `here`: the best so far is the largest difference from 1 to `here`
+pub record Walked (y : Tasks) (a : Assignment) (i here : ℕ) (s : Slack) : Type 0 where
+  pub low : 1 ≤ here
+  pub high : here ≤ y .d i
+  pub value : valueOf s ≡ largest (slack y a i) (here - 1)
+  pub at : s .at ≤ mostTicks
+  pub need : s .need ≤ mostNeed
+
+-- a pair that stands for the tolerance of i
+pub record Tolerated (y : Tasks) (a : Assignment) (i : ℕ) (s : Slack) : Type 0 where
+  pub value : valueOf s ≡ tolerance y a i
+  pub at : s .at ≤ mostTicks
+  pub need : s .need ≤ mostNeed

@@ -1,0 +1,125 @@
+-- Each number of a table that the writer takes fits its field.
+use Prim.{tt}
+use mathlib.Core.Path.{_≡_, refl}
+use mathlib.Core.Logic.{_⊎_, inl, inr, ⊎-elim}
+use mathlib.Core.Bool.{Bool, true, false, not, _&&_, _||_}
+use mathlib.Core.List.{List}
+use Prim.Native.Nat.{ℕ, _+_, _^_, _≤_, _<_}
+use native.Mathlib.Nat.{zero-add}
+use native.Mathlib.Omega.{arith}
+use borrow.Author.Tests.{eqb-true, leb-true}
+use lib.Dec.{leb, eqb}
+use lib.ListN.{length, getD}
+use Rattle.paper.specs.Numbers.{mostTasks, mostName, mostTicks, rec, ticksInRange, recordInRange, eachOnce, thresholdsHold, assigned, unassigned, assignmentHolds}
+use Rattle.paper.specs.Vocabulary.{every}
+use Rattle.paper.specs.Regions.{listOf, wordsInRange, wordsSum, regionsHold, recordRegionsHold, allRegionsHold}
+use Rattle.paper.specs.File.{recordWidths, recordValues, sourceBit}
+use Rattle.paper.specs.declared.Source.{Source}
+use Rattle.paper.specs.declared.Source.the-variants.{Own, Catalogue}
+use Rattle.paper.specs.declared.Record.{Record}
+use Rattle.paper.specs.declared.Table.{Table}
+use Rattle.laws.proofs.Every.{both, within, every-says}
+use Rattle.bits.specs.Fields.{AllFit}
+use Rattle.paper.proofs.Writing.{Taken}
+use Rattle.trips.proofs.Made.{Fits}
+
+ticks-fit : (x : ℕ) → ticksInRange x ≡ true → x < 2 ^ 20
+ticks-fit x e = omega (arith, within 1 mostTicks x e)
+
+source-fits : (q : Source) → sourceBit q < 2 ^ 1
+source-fits Own = omega arith
+source-fits Catalogue = omega arith
+
+record Levels (r : Record) : Type 0 where
+  pub priority : r .priority < 2 ^ 4
+  pub threshold : r .threshold < 2 ^ 4
+
+levels-fit : (rs : List Record) (n : ℕ) → n ≤ mostTasks → assignmentHolds rs n ≡ true → (k : ℕ) → k < n → Levels (rec rs k)
+unfolding eachOnce thresholdsHold
+levels-fit rs n h e k l =
+    ⊎-elim
+    (λ (u : unassigned rs n ≡ true).
+    let b = both _ _ (every-says n (λ j. eqb (rec rs j .priority) 0 && eqb (rec rs j .threshold) 0) u k l) in
+    let x : rec rs k .priority ≡ 0 = eqb-true _ _ (b .0) in
+    let y : rec rs k .threshold ≡ 0 = eqb-true _ _ (b .1) in
+    record { priority = omega arith; threshold = omega arith })
+    (λ (a : (eachOnce n (assigned rs .p) && thresholdsHold n (assigned rs)) ≡ true).
+    let b = both _ _ a in
+    let o = both _ (every n (λ j. every j (λ i. not (eqb (rec rs i .priority) (rec rs j .priority))))) (b .0) in
+    let x = within 1 n (rec rs k .priority) (every-says n (λ j. leb 1 (rec rs j .priority) && leb (rec rs j .priority) n) (o .0) k l) in
+    let y =
+    within 1 (rec rs k .priority) (rec rs k .threshold)
+    (every-says n (λ j. leb 1 (rec rs j .threshold) && leb (rec rs j .threshold) (rec rs j .priority)) (b .1) k l) in
+    record { priority = omega arith; threshold = omega arith })
+    (either _ _ e)
+  where
+    either : (a b : Bool) → (a || b) ≡ true → (a ≡ true) ⊎ (b ≡ true)
+    either true b e = inl refl
+    either false b e = inr e
+
+record Named (r : Record) : Type 0 where
+  pub first : r .first < 2 ^ 7
+  pub count : r .count < 2 ^ 7
+
+named-fit : (own catalogue : List ℕ) (r : Record) → recordRegionsHold own catalogue r ≡ true → Named r
+unfolding regionsHold
+named-fit own catalogue r e =
+    let list = listOf (r .source) own catalogue in
+    let d = leb (r .first + r .count) (length list) && (wordsInRange list (r .first) (r .count) && eqb (wordsSum list (r .first) (r .count)) (r .cost)) in
+    let a = both (leb (r .first) 127) (leb (r .count) 127 && d) (both (leb 1 (r .count)) _ e .1) in
+    let b = both (leb (r .count) 127) d (a .1) in
+    let x : r .first ≤ 127 = leb-true _ _ (a .0) in
+    let y : r .count ≤ 127 = leb-true _ _ (b .0) in
+    record { first = omega arith; count = omega arith }
+
+record Held (n : ℕ) (rs : List Record) (own catalogue : List ℕ) : Type 0 where
+  pub words : (k : ℕ) → k < length own → ticksInRange (getD own k 0) ≡ true
+  pub each : (k : ℕ) → k < n → recordRegionsHold own catalogue (rec rs k) ≡ true
+
+regions-say : (n : ℕ) (rs : List Record) (own catalogue : List ℕ) → allRegionsHold rs n own catalogue ≡ true → Held n rs own catalogue
+unfolding allRegionsHold
+regions-say n rs own catalogue e =
+    let b = both _ _ e in
+    record {
+      words = λ k l. rw zero-add at (every-says (length own) (λ i. ticksInRange (getD own (0 + i) 0)) (b .0) k l);
+      each = every-says n (λ k. recordRegionsHold own catalogue (rec rs k)) (b .1);
+    }
+
+record-fits : (r : Record) → recordInRange r ≡ true → Levels r → Named r → AllFit recordWidths (recordValues r)
+record-fits r e v d =
+    let a = both _ _ e in
+    let b = both _ _ (a .1) in
+    let c = both _ _ (b .1) in
+    let x : r .name ≤ mostName = leb-true _ _ (c .1) in (
+      ticks-fit _ (a .0),
+      (
+        ticks-fit _ (b .0),
+        (
+          ticks-fit _ (c .0),
+          (
+            v .priority,
+            (
+              v .threshold,
+              (
+                source-fits (r .source),
+                (d .first, (d .count, (omega arith, (omega arith, tt)))),
+              ),
+            ),
+          ),
+        ),
+      ),
+    )
+
+pub taken-fits : (t : Table) (cabinet line : ℕ) (own catalogue : List ℕ) (room : ℕ) → Taken t cabinet own catalogue room → line < 2 ^ 16 → Fits t cabinet line own
+taken-fits t cabinet line own catalogue room w l =
+    let h = regions-say (t .n) (t .records) own catalogue (w .regions) in
+    record {
+      tasks = w .few-tasks;
+      many = w .few-words;
+      cabinet-fits = omega (arith, w .cabinets);
+      line-fits = l;
+      records-fit = λ k i.
+          record-fits (rec (t .records) k) (every-says (t .n) (λ j. recordInRange (rec (t .records) j)) (w .ranges) k i)
+          (levels-fit (t .records) (t .n) (w .few-tasks) (w .assignment) k i) (named-fit own catalogue (rec (t .records) k) (h .each k i));
+      words-fit = λ k i. ticks-fit (getD own k 0) (h .words k i);
+    }

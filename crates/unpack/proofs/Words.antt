@@ -1,0 +1,41 @@
+-- The region words of a file, and the array that they come in.
+use mathlib.Core.Path.{_≡_, refl, sym, ap, _∙_}
+use mathlib.Core.List.{List, _++_}
+use Prim.Native.Nat.{ℕ, _+_, _-_, _≤_, _<_}
+use lib.ListN.{length, getD, set, take, replicate}
+use lib.Seq.{take-at}
+use Rattle.paper.specs.Vocabulary.{listTo}
+use Rattle.paper.specs.Numbers.{mostWords}
+use Rattle.paper.specs.Bits.{field}
+use Rattle.paper.specs.File.{wordAt, regionWords}
+use Rattle.laws.proofs.Lists.{list-length, list-at, fill-more}
+use Rattle.unpack.specs.Unpack.{wordsArray}
+
+pub words-length : (f : List ℕ) (n m : ℕ) → length (regionWords f n m) ≡ m
+unfolding regionWords
+words-length f n m = list-length m (λ k. field f (wordAt n k) 20)
+
+pub word-in : (f : List ℕ) (n m k : ℕ) → k < m → getD (regionWords f n m) k 0 ≡ field f (wordAt n k) 20
+unfolding regionWords
+word-in f n m k h = list-at m (λ k. field f (wordAt n k) 20) 0 k h
+
+-- the turns of the loop that fills the array
+pub array-none : (f : List ℕ) (n : ℕ) → replicate mostWords 0 ≡ wordsArray f n 0
+unfolding wordsArray regionWords listTo
+array-none f n = refl
+
+pub array-turn : (f : List ℕ) (n k : ℕ) {ws : List ℕ} {w : ℕ} → k < mostWords
+    → ws ≡ wordsArray f n k → w ≡ field f (wordAt n k) 20 → set ws k w ≡ wordsArray f n (k + 1)
+unfolding wordsArray regionWords
+array-turn f n k h e g = rw (e, g) (fill-more mostWords k (λ k. field f (wordAt n k) 20) 0 h)
+
+pub array-done : (f : List ℕ) (n k m : ℕ) {ws : List ℕ} → ws ≡ wordsArray f n k → k ≡ m → ws ≡ wordsArray f n m
+array-done f n k m e h = rw (← h) e
+
+-- the front of the array is the words
+pub array-front : (f : List ℕ) (n m : ℕ) {ws : List ℕ} → ws ≡ wordsArray f n m → take m ws ≡ regionWords f n m
+unfolding wordsArray
+array-front f n m e = rw e (take-at (regionWords f n m) (replicate (mostWords - m) 0) m (words-length f n m))
+
+pub front-length : (f : List ℕ) (n m : ℕ) {ws : List ℕ} → ws ≡ wordsArray f n m → m ≡ length (take m ws)
+front-length f n m e = rw (array-front f n m e) (sym (words-length f n m))
