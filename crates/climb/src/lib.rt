@@ -1,0 +1,78 @@
+// The least solution of the one equation that all of the analysis solves, over columns of numbers.
+use paper::Time;
+ghost use mathlib.Core.Path.{_≡_};
+ghost use mathlib.Core.Bool.{cond};
+ghost use Prim.Native.Nat.{_+_, _*_, _≤_};
+ghost use lib.Dec.{ltb};
+ghost use Rattle.paper.specs.Vocabulary.{ceilDiv};
+ghost use Rattle.paper.specs.Numbers.{mostTicks, horizon};
+ghost use Rattle.climb.specs.Work.{timesBy, Ready, work, side, solution, Rises};
+
+// One number for each task.
+pub type Column = [u64; paper::MOST_TASKS];
+
+// x = base + work(limit, x + edge) - off. L, S and F are the least x of such an equation.
+pub struct Equation {
+    pub limit: u64,
+    pub base: u64,
+    pub off: u64,
+    pub edge: u64,
+}
+
+// Jobs asked for before x.
+pub fn arrived(x: u64, t: u64) -> u64
+    requires { ⌜ (x ≤ horizon + 1) × (1 ≤ t) × (t ≤ mostTicks) ⌝ }
+    ensures { λ r. ⌜ r ≡ ceilDiv x t ⌝ }
+{
+    (x + (t - 1)) / t
+}
+
+// What one task adds.
+fn part(x: u64, limit: u64, c: u64, t: u64, p: u64) -> u64
+    requires { ⌜ (x ≤ horizon + 1) × (1 ≤ t) × (t ≤ mostTicks) × (c ≤ mostTicks) ⌝ }
+    ensures { λ r. ⌜ r ≡ cond (ltb p limit) (ceilDiv x t * c) 0 ⌝ }
+{
+    if p < limit { arrived(x, t) * c } else { 0 }
+}
+
+pub fn work(n: usize, c: &Column, t: &Column, p: &Column, limit: u64, x: u64) -> u64
+    requires { ⌜ Ready n (now c) (now t) (now p) × (x ≤ horizon + 1) ⌝ }
+    ensures { λ r. ⌜ r ≡ work (timesBy n (now (c .entry)) (now (t .entry))) (now (p .entry)) limit x ⌝ }
+{
+    let mut total = 0;
+    let mut j = 0;
+    while j < n {
+        total = total + part(x, limit, c[j], t[j], p[j]);
+        j = j + 1;
+    }
+    total
+}
+
+// The right side of an equation, at x.
+fn side(n: usize, c: &Column, t: &Column, p: &Column, e: Equation, x: u64) -> u64
+    requires { ⌜ Ready n (now c) (now t) (now p) × (x ≤ horizon) × Rises (timesBy n (now c) (now t)) (now p) e x ⌝ }
+    ensures { λ r. ⌜ r ≡ side (timesBy n (now (c .entry)) (now (t .entry))) (now (p .entry)) e x ⌝ }
+{
+    e.base + work(n, c, t, p, e.limit, x + e.edge) - e.off
+}
+
+// The least x from `from` to the horizon that solves the equation.
+pub fn solve(n: usize, c: &Column, t: &Column, p: &Column, e: Equation, from: u64) -> Time
+    requires { ⌜ Ready n (now c) (now t) (now p) × Rises (timesBy n (now c) (now t)) (now p) e from ⌝ }
+    ensures { λ r. ⌜ r ≡ solution (timesBy n (now (c .entry)) (now (t .entry))) (now (p .entry)) e from ⌝ }
+{
+    if from > 1000000 {
+        return Time::Beyond;
+    }
+    let mut x = from;
+    loop {
+        let next = side(n, c, t, p, e, x);
+        if next == x {
+            return Time::At(x);
+        }
+        if next > 1000000 {
+            return Time::Beyond;
+        }
+        x = next;
+    }
+}

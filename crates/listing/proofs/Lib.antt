@@ -1,0 +1,3 @@
+pub mod Moves
+pub mod Tested
+pub mod Answers

@@ -1,0 +1,189 @@
+-- L, S and F are each the solution of such an equation, and each may be climbed to from where the code starts.
+use Prim.Native.Nat.{ℕ, zero, suc, _+_, _-_, _*_, _≤_, _<_, zero-le}
+use mathlib.Core.Path.{_≡_, refl, ap, sym, _∙_, fun-ext}
+use mathlib.Core.Bool.{Bool, true, false, cond}
+use mathlib.Core.List.{List}
+use native.Mathlib.Decide.{decLe}
+use native.Mathlib.Omega.{arith}
+use native.Mathlib.Numerals.{add-one}
+use native.Mathlib.Nat.{le-refl, le-trans, mul-le-mul, add-mul, one-mul}
+use borrow.Author.Tests.{le-leb, eqb-true, ne-eqb}
+use lib.Dec.{leb, ltb, eqb, leb·suc-suc}
+use lib.ListN.{getD}
+use Rattle.paper.specs.Numbers.{mostTicks, horizon}
+use Rattle.paper.specs.Analysis.{Tasks, Standing, before, by, started, load, levelSum, levelOf, startSum, startOf, finishSum, finishOf}
+use Rattle.paper.specs.declared.Time.{Time}
+use Rattle.paper.specs.declared.Time.the-variants.{At, Beyond}
+use Rattle.laws.proofs.Least.{Mono, fixed, Under, least-same, least-beyond, least-none, under-skip, under-larger, Taken, taken}
+use Rattle.laws.proofs.Arrivals.{before-le, by-is, before-first, load-same, load-le, load-part, load-less}
+use Rattle.climb.specs.Work.{timesBy, Ready, work, side, solution, Rises}
+use Rattle.response.specs.Stands.{standBy, edge, Climbs}
+use Rattle.response.specs.declared.Stand.{Stand}
+use Rattle.climb.specs.declared.Equation.{Equation}
+use Rattle.climb.proofs.Works.{work-le, side-le}
+
+-- jobs started by x are those asked for before x + edge
+started-is : (y : Tasks) (b x j : ℕ) → 1 ≤ y .t j → started y b x j ≡ before y (x + edge b) j
+unfolding started edge
+started-is y b x j h = go (ltb 0 b)
+  where
+    go : (v : Bool) → cond v (before y x j) (by y x j) ≡ before y (x + cond v 0 1) j
+    go true = let e : x + 0 ≡ x = omega arith in rw e
+    go false = by-is y j h x
+
+pub edge-small : (b : ℕ) → edge b ≤ 1
+unfolding edge
+edge-small b = go (ltb 0 b)
+  where
+    go : (v : Bool) → cond v 0 1 ≤ 1
+    go true = zero-le
+    go false = le-refl 1
+
+-- `p ≤ own` as `p < own + 1`
+limit-up : (p own : ℕ) → ltb p (own + 1) ≡ leb p own
+limit-up p own = simp (add-one, leb·suc-suc)
+
+abbrev levelBy : Stand → Equation
+levelBy s = record { limit = s .p + 1; base = s .b; off = 0; edge = 0 }
+
+abbrev startBy : Stand → ℕ → ℕ → Equation
+startBy s base first = record { limit = s .p; base = base; off = 0; edge = first }
+
+abbrev finishBy : Stand → ℕ → ℕ → Equation
+finishBy s base off = record { limit = s .h; base = base; off = off; edge = 0 }
+
+module _ (n : ℕ) (cs ts ps : List ℕ) (r : Ready n cs ts ps) (s : Stand) where
+  started-work : (limit x : ℕ) → load (timesBy n cs ts) (λ j. ltb (getD ps j 0) limit) (started (timesBy n cs ts) (s .b) x) ≡ work (timesBy n cs ts) ps limit (x + edge (s .b))
+  unfolding work
+  started-work limit x = load-same (timesBy n cs ts) _ _ _ (λ j l. started-is (timesBy n cs ts) (s .b) x j (r .periods .above j l))
+
+  -- L
+
+  level-side : (x : ℕ) → side (timesBy n cs ts) ps (levelBy s) x ≡ levelSum (timesBy n cs ts) (standBy ps s) x
+  unfolding side work levelSum
+  level-side x =
+      let e : x + 0 ≡ x = omega arith in
+      let q = ap (λ set. load (timesBy n cs ts) set (before (timesBy n cs ts) x)) (fun-ext (λ j. limit-up (getD ps j 0) (s .p))) in
+      rw e (omega (arith, q))
+
+  pub level-is : solution (timesBy n cs ts) ps (levelBy s) 1 ≡ levelOf (timesBy n cs ts) (standBy ps s)
+  unfolding solution levelOf
+  level-is = least-same _ _ 1 horizon (λ x _. ap (eqb x) (level-side x))
+
+  pub level-rises : (i : ℕ) → i < n → s .b ≤ mostTicks → s .p ≡ getD ps i 0 → Rises (timesBy n cs ts) ps (levelBy s) 1
+  unfolding levelSum
+  level-rises i l b own =
+      record {
+        base = omega arith;
+        edge = zero-le;
+        off = zero-le;
+        rise =
+            omega (
+              arith,
+              level-side 1,
+              load-part (timesBy n cs ts) (λ j. leb (getD ps j 0) (s .p)) (before (timesBy n cs ts) 1) i l (le-leb (getD ps i 0) (s .p) (omega arith)),
+              mul-le-mul (before-first (timesBy n cs ts) i (r .periods .above i l) 1 (le-refl 1)) (r .costs .above i l),
+            );
+      }
+
+  pub level-range : (l : ℕ) → levelOf (timesBy n cs ts) (standBy ps s) ≡ At l → l ≤ horizon
+  unfolding levelOf
+  level-range l e = omega (arith, taken _ 1 horizon l e .high)
+
+  -- S of job k of task i
+
+  module _ (i k : ℕ) where
+    start-side : (x : ℕ) → side (timesBy n cs ts) ps (startBy s (s .b + k * getD cs i 0) (edge (s .b))) x ≡ startSum (timesBy n cs ts) (standBy ps s) i k x
+    unfolding side startSum
+    start-side x = omega (arith, started-work (s .p) x)
+
+    start-le : Mono (startSum (timesBy n cs ts) (standBy ps s) i k)
+    start-le x z h =
+        omega (
+          arith,
+          start-side x,
+          start-side z,
+          side-le n cs ts ps (startBy s (s .b + k * getD cs i 0) (edge (s .b))) x z h,
+        )
+
+    pub start-range : (v : ℕ) → startOf (timesBy n cs ts) (standBy ps s) i k ≡ At v → v ≤ horizon
+    unfolding startOf
+    start-range v e = omega (arith, taken _ 0 (horizon + 1) v e .high)
+
+    module _ (from first : ℕ) (f : first ≡ edge (s .b)) (up : Climbs (startSum (timesBy n cs ts) (standBy ps s) i k) from) where
+      pub start-is : solution (timesBy n cs ts) ps (startBy s (s .b + k * getD cs i 0) first) from ≡ startOf (timesBy n cs ts) (standBy ps s) i k
+      unfolding solution startOf
+      start-is =
+          rw f (least-same _ _ from (horizon + 1 - from) (λ x _. ap (eqb x) (start-side x)))
+          ∙ sym (under-skip _ 0 from (horizon + 1) (λ x _ e. up .under x e) zero-le)
+
+      pub start-rises : i < n → s .b ≤ mostTicks → k ≤ horizon → Rises (timesBy n cs ts) ps (startBy s (s .b + k * getD cs i 0) first) from
+      start-rises l b m =
+          record {
+            base = omega (arith, mul-le-mul {n₂ = horizon} {m₂ = mostTicks} m (r .costs .below i l));
+            edge = rw f (edge-small (s .b));
+            off = zero-le;
+            rise = rw f (omega (arith, start-side from, up .rises));
+          }
+
+  -- job 0 starts at 0 or later
+  pub climbs-none : (i : ℕ) → Climbs (startSum (timesBy n cs ts) (standBy ps s) i 0) 0
+  climbs-none i = record { rises = zero-le; under = λ x e. zero-le }
+
+  start-next : (i k x : ℕ) → startSum (timesBy n cs ts) (standBy ps s) i (k + 1) x ≡ startSum (timesBy n cs ts) (standBy ps s) i k x + getD cs i 0
+  unfolding startSum
+  start-next i k x = omega (arith, add-mul k 1 (getD cs i 0), one-mul (getD cs i 0))
+
+  -- and the next at least a cost later than this one
+  pub climbs-next : (i k v : ℕ) → startOf (timesBy n cs ts) (standBy ps s) i k ≡ At v → Climbs (startSum (timesBy n cs ts) (standBy ps s) i (k + 1)) (v + getD cs i 0)
+  unfolding startOf
+  climbs-next i k v e =
+      let this = startSum (timesBy n cs ts) (standBy ps s) i k in
+      let next = startSum (timesBy n cs ts) (standBy ps s) i (k + 1) in
+      let q : v ≡ this v = eqb-true v (this v) (taken (fixed this) 0 (horizon + 1) v e .hit) in
+      let m : next v ≡ v + getD cs i 0 = omega (arith, start-next i k v) in
+      record {
+        rises = omega (arith, start-le i (k + 1) v (v + getD cs i 0) (omega arith));
+        under =
+            λ x f.
+            omega (
+              arith,
+              under-larger this next 0 (horizon + 1) v (start-le i k) (start-le i (k + 1)) zero-le (λ z. omega (arith, start-next i k z)) e x zero-le f,
+            );
+      }
+
+  -- F of a job of task i that starts at `begun`
+
+  module _ (i begun off : ℕ) (o : off ≡ work (timesBy n cs ts) ps (s .h) (begun + edge (s .b))) where
+    off-before : (x : ℕ) → begun < x → off ≤ work (timesBy n cs ts) ps (s .h) x
+    off-before x l = omega (arith, work-le n cs ts ps (s .h) (begun + edge (s .b)) x (omega (arith, edge-small (s .b))))
+
+    finish-side : (x : ℕ) → begun < x → side (timesBy n cs ts) ps (finishBy s (begun + getD cs i 0) off) x ≡ finishSum (timesBy n cs ts) (standBy ps s) i begun x
+    unfolding side finishSum work
+    finish-side x l =
+        let y = timesBy n cs ts in
+        let e : x + 0 ≡ x = omega arith in
+        rw e
+        (omega (
+          arith,
+          started-work (s .h) begun,
+          load-less y (λ j. ltb (getD ps j 0) (s .h)) (before y x) (started y (s .b) begun) (λ j m. rw (started-is y (s .b) begun j (r .periods .above j m)) (before-le y j (begun + edge (s .b)) x (omega (arith, edge-small (s .b))))),
+        ))
+
+    pub finish-is : solution (timesBy n cs ts) ps (finishBy s (begun + getD cs i 0) off) (begun + 1) ≡ finishOf (timesBy n cs ts) (standBy ps s) i begun
+    unfolding solution finishOf
+    finish-is =
+        let e : horizon + 1 - (begun + 1) ≡ horizon - begun = omega arith in
+        rw e (least-same _ _ (begun + 1) (horizon - begun) (λ x l. ap (eqb x) (finish-side x (omega arith))))
+
+    pub finish-rises : i < n → begun ≤ horizon → Rises (timesBy n cs ts) ps (finishBy s (begun + getD cs i 0) off) (begun + 1)
+    unfolding side
+    finish-rises l m =
+        let e : begun + 1 + 0 ≡ begun + 1 = omega arith in
+        let w = off-before (begun + 1) (omega arith) in
+        record {
+          base = omega (arith, r .costs .below i l);
+          edge = zero-le;
+          off = rw e (omega arith);
+          rise = rw e (omega (arith, r .costs .above i l));
+        }

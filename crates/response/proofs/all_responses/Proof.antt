@@ -1,0 +1,62 @@
+-- The invariant: the responses of the tasks passed stand in front, nothing behind them.
+use Prim.Native.Nat.{_-_, _≤_}
+use mathlib.Core.Path.{_≡_, ap, _∙_}
+use native.Mathlib.Omega.{arith}
+use borrow.Author.Needs.{needs}
+use Rattle.paper.specs.Numbers.{eight}
+use Rattle.paper.specs.Answers.{noTime}
+use Rattle.laws.proofs.Lists.{eight-none, eight-turn, eight-done}
+use Rattle.response.specs.Stands.{answerBy}
+use Rattle.response.proofs.all_responses.Statement.{statement}
+use Rattle.response.proofs.all_responses.Tie as tie
+
+abbrev Inv-loop : tie.InvT-loop
+Inv-loop n c t p h times₀ i₀ times i = (i ≤ n) × (times ≡ eight i (answerBy n c t p h) noTime)
+
+abbrev μ-loop : tie.MeasureT-loop
+μ-loop n c t p h times₀ i₀ times i = n - i
+
+no-times-requires : tie.Need-no-times-requires Inv-loop μ-loop
+no-times-requires c κs = tt
+
+loop-holds : tie.Need-loop-holds Inv-loop μ-loop
+loop-holds c = (search needs, c .no-times .ensures ∙ eight-none _ _)
+
+response-requires : tie.Need-response-requires Inv-loop μ-loop
+response-requires c κs = (c .before .before .before .pre, c .loop-test .taken)
+
+mul-times : tie.Need-mul-times Inv-loop μ-loop
+mul-times c = omega arith
+
+array-set-from-times : tie.Need-array-set-from-times Inv-loop μ-loop
+array-set-from-times c = omega arith
+
+add-i : tie.Need-add-i Inv-loop μ-loop
+add-i c = search needs
+
+loop-less : tie.Need-loop-less Inv-loop μ-loop
+loop-less c = search needs
+
+loop-again : tie.Need-loop-again Inv-loop μ-loop
+loop-again c =
+    let l = c .before .before .loop in
+    (search needs, eight-turn (l .i) _ _ (omega arith) (l .inv .1) (ap (λ r. record { time = r }) (c .response .ensures)))
+
+returns : tie.Need-returns Inv-loop μ-loop
+returns c = eight-done _ (c .before .before .before .args .n) _ _ (c .before .loop .inv .1) (omega arith)
+
+pub all-responses-spec : {M : Type 1} → statement M
+all-responses-spec =
+    tie.close
+    (tie.spec
+    Inv-loop
+    μ-loop
+    no-times-requires
+    loop-holds
+    response-requires
+    mul-times
+    array-set-from-times
+    add-i
+    loop-less
+    loop-again
+    returns)
