@@ -367,7 +367,7 @@ fn flip(random: &mut Random, file: &mut [u8], bits: u32) {
     }
 }
 
-fn seal_again(file: &mut [u8]) {
+pub fn seal_again(file: &mut [u8]) {
     let end = file.len() - 2;
     let sealed = seal(&file[..end]).to_be_bytes();
     file[end..].copy_from_slice(&sealed);
@@ -419,28 +419,28 @@ fn names(random: &mut Random) -> Vec<u8> {
     list
 }
 
-fn put_two(body: &mut Vec<u8>, number: u32) {
+pub fn put_two(body: &mut Vec<u8>, number: u32) {
     body.extend((number as u16).to_be_bytes());
 }
 
-fn put_plate(body: &mut Vec<u8>, plate: Plate) {
+pub fn put_plate(body: &mut Vec<u8>, plate: Plate) {
     body.extend(plate.cabinet.to_be_bytes());
     body.extend(plate.line.to_be_bytes());
 }
 
-fn put_words(body: &mut Vec<u8>, words: &[u32]) {
+pub fn put_words(body: &mut Vec<u8>, words: &[u32]) {
     put_two(body, words.len() as u32);
     for word in words {
         body.extend(word.to_be_bytes());
     }
 }
 
-fn put_bytes(body: &mut Vec<u8>, bytes: &[u8]) {
+pub fn put_bytes(body: &mut Vec<u8>, bytes: &[u8]) {
     put_two(body, bytes.len() as u32);
     body.extend(bytes);
 }
 
-fn put_table(body: &mut Vec<u8>, table: &Table) {
+pub fn put_table(body: &mut Vec<u8>, table: &Table) {
     body.push(table.n);
     for r in &table.records {
         for word in [

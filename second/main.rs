@@ -9,11 +9,15 @@
 //! - `plate`: the same description; writes the five plate bytes;
 //! - `catalogue`: the same description; prints the catalogue it names, one number a line;
 //! - `generate SEED COUNT`: writes that many requests for `ask` (see generate.rs);
-//! - `inputs SEED COUNT FOLDER`: writes that many inputs for `list`, a file each.
+//! - `inputs SEED COUNT FOLDER`: writes that many inputs for `list`, a file each;
+//! - `cases`: writes the stored stream of requests for `ask` (see cases.rs);
+//! - `refusals`: prints which line of that stream reaches which refusal;
+//! - `small FOLDER`: writes the stored cases that stand in a file each.
 
 mod analysis;
 mod ask;
 mod bits;
+mod cases;
 mod checks;
 mod file;
 mod generate;
@@ -65,6 +69,7 @@ fn run() -> Result<(), Stop> {
     };
     match (command.as_str(), rest) {
         ("generate", [seed, count]) => return generate(number(seed)?, number(count)?),
+        ("small", [folder]) => return Ok(cases::small(folder)?),
         ("inputs", [seed, count, folder]) => return inputs(number(seed)?, number(count)?, folder),
         (_, []) => {}
         _ => return Err(usage()),
@@ -74,6 +79,8 @@ fn run() -> Result<(), Stop> {
     match command.as_str() {
         "ask" => ask::run(input, &mut output)?,
         "list" => list::run(input, &mut output)?,
+        "cases" => output.write_all(&cases::stream())?,
+        "refusals" => output.write_all(cases::refusals().as_bytes())?,
         "make" => output.write_all(&make::file(&whole_text(input)?)?)?,
         "plate" => output.write_all(&make::plate(&whole_text(input)?)?)?,
         "catalogue" => output.write_all(make::catalogue(&whole_text(input)?)?.as_bytes())?,
@@ -84,7 +91,10 @@ fn run() -> Result<(), Stop> {
 }
 
 fn usage() -> Stop {
-    Stop::Wrong("give one of: ask list make plate catalogue generate inputs".to_string())
+    Stop::Wrong(
+        "give one of: ask list make plate catalogue generate inputs cases refusals small"
+            .to_string(),
+    )
 }
 
 fn number(text: &str) -> Result<u64, Stop> {

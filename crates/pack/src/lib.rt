@@ -1,17 +1,17 @@
 // The parts of a cabinet file that stand before its seal: the head, the records and the region words.
 ghost use mathlib.Core.Path.{_≡_};
-ghost use Prim.Native.Nat.{_+_, _*_, _<_, _≤_};
+ghost use mathlib.Core.List.{[], _∷_};
+ghost use Prim.Native.Nat.{_+_, _*_, _<_, _≤_, _^_};
 ghost use lib.ListN.{length, replicate};
 ghost use Rattle.paper.specs.Numbers.{mostTasks, mostWords};
-ghost use Rattle.paper.specs.Bits.{putFields};
+ghost use Rattle.paper.specs.Bits.{putField, putFields};
 ghost use Rattle.paper.specs.File.{sourceBit, recordWidths, recordValues, recordAt, wordAt, fileLength, putHead, putRecords, putWords};
+ghost use Rattle.pack.specs.Widths.{ticksWidths, levelWidths, regionWidths, nameWidths};
 use paper::MOST_TASKS;
 use paper::Record;
 use paper::Source;
 
 const HEAD_WIDTHS: [usize; 6] = [4, 4, 24, 16, 8, 8];
-
-const RECORD_WIDTHS: [usize; 10] = [20, 20, 20, 4, 4, 1, 7, 7, 7, 6];
 
 fn clear(s: &mut [u8])
     ensures { λ _. ⌜ now (s .exit) ≡ replicate (length (now (s .entry))) 0 ⌝ }
@@ -42,31 +42,53 @@ fn source_bit(source: Source) -> u64
     }
 }
 
-fn values_of(r: Record) -> [u64; 10]
-    ensures { λ v. ⌜ v ≡ recordValues r ⌝ }
+// A record in four parts. The widths and places are numbers in the code, so that each field compiles to straight code.
+fn put_ticks(s: &mut [u8], at: usize, cost: u32, period: u32, deadline: u32)
+    requires { ⌜ (at + 60 ≤ length (now s) * 8) × (at < 2 ^ 20) ⌝ }
+    ensures { λ _. ⌜ now (s .exit) ≡ putFields (now (s .entry)) at ticksWidths (cost ∷ period ∷ deadline ∷ []) ⌝ }
 {
-    let source = r.source;
-    let bit = source_bit(source);
-    [
-        r.cost as u64,
-        r.period as u64,
-        r.deadline as u64,
-        r.priority as u64,
-        r.threshold as u64,
-        bit,
-        r.first as u64,
-        r.count as u64,
-        r.name as u64,
-        0,
-    ]
+    bits::put(s, at, 20, cost as u64);
+    bits::put(s, at + 20, 20, period as u64);
+    bits::put(s, at + 20 + 20, 20, deadline as u64);
+}
+
+fn put_levels(s: &mut [u8], at: usize, priority: u32, threshold: u32)
+    requires { ⌜ (at + 8 ≤ length (now s) * 8) × (at < 2 ^ 20) ⌝ }
+    ensures { λ _. ⌜ now (s .exit) ≡ putFields (now (s .entry)) at levelWidths (priority ∷ threshold ∷ []) ⌝ }
+{
+    bits::put(s, at, 4, priority as u64);
+    bits::put(s, at + 4, 4, threshold as u64);
+}
+
+fn put_regions(s: &mut [u8], at: usize, source: u64, first: u32, count: u32)
+    requires { ⌜ (at + 15 ≤ length (now s) * 8) × (at < 2 ^ 20) ⌝ }
+    ensures { λ _. ⌜ now (s .exit) ≡ putFields (now (s .entry)) at regionWidths (source ∷ first ∷ count ∷ []) ⌝ }
+{
+    bits::put(s, at, 1, source);
+    bits::put(s, at + 1, 7, first as u64);
+    bits::put(s, at + 1 + 7, 7, count as u64);
+}
+
+// The name number and the spare bits.
+fn put_name(s: &mut [u8], at: usize, name: u32)
+    requires { ⌜ (at + 13 ≤ length (now s) * 8) × (at < 2 ^ 20) ⌝ }
+    ensures { λ _. ⌜ now (s .exit) ≡ putFields (now (s .entry)) at nameWidths (name ∷ 0 ∷ []) ⌝ }
+{
+    bits::put(s, at, 7, name as u64);
+    bits::put(s, at + 7, 6, 0);
 }
 
 fn put_record(s: &mut [u8], k: usize, r: Record)
     requires { ⌜ (k < mostTasks) × (20 + 12 * k ≤ length (now s)) ⌝ }
     ensures { λ _. ⌜ now (s .exit) ≡ putFields (now (s .entry)) (recordAt k) recordWidths (recordValues r) ⌝ }
 {
-    let values = values_of(r);
-    bits::put_all(s, 64 + 96 * k, &RECORD_WIDTHS, &values);
+    let source = r.source;
+    let bit = source_bit(source);
+    let at = 64 + 96 * k;
+    put_ticks(s, at, r.cost, r.period, r.deadline);
+    put_levels(s, at + 60, r.priority, r.threshold);
+    put_regions(s, at + 60 + 8, bit, r.first, r.count);
+    put_name(s, at + 60 + 8 + 15, r.name);
 }
 
 // Puts the first n records.
@@ -81,15 +103,38 @@ pub fn put_records(s: &mut [u8], rs: [Record; MOST_TASKS], n: usize)
     }
 }
 
+// Two words are five bytes, so that each word of a pair begins at a known place in its byte: straight code again.
+fn put_pair(s: &mut [u8], at: usize, a: u32, b: u32)
+    requires { ⌜ (at + 40 ≤ length (now s) * 8) × (at < 2 ^ 20) ⌝ }
+    ensures { λ _. ⌜ now (s .exit) ≡ putField (putField (now (s .entry)) at 20 a) (at + 20) 20 b ⌝ }
+{
+    bits::put(s, at, 20, a as u64);
+    bits::put(s, at + 20, 20, b as u64);
+}
+
+// Puts the first 2p words after n records.
+fn put_pairs(s: &mut [u8], n: usize, ws: &[u32], p: usize)
+    requires { ⌜ (n ≤ mostTasks) × (2 * p ≤ length (now ws)) × (length (now ws) ≤ mostWords) × (wordAt n (length (now ws)) ≤ length (now s) * 8) ⌝ }
+    ensures { λ _. ⌜ now (s .exit) ≡ putWords (now (s .entry)) n (now (ws .entry)) (2 * p) ⌝ }
+{
+    let at = 64 + 96 * n;
+    let mut i: usize = 0;
+    while i < p {
+        put_pair(s, at + 40 * i, ws[2 * i], ws[2 * i + 1]);
+        i += 1;
+    }
+}
+
 // Puts the region words after n records.
 pub fn put_words(s: &mut [u8], n: usize, ws: &[u32])
     requires { ⌜ (n ≤ mostTasks) × (length (now ws) ≤ mostWords) × (wordAt n (length (now ws)) ≤ length (now s) * 8) ⌝ }
     ensures { λ _. ⌜ now (s .exit) ≡ putWords (now (s .entry)) n (now (ws .entry)) (length (now (ws .entry))) ⌝ }
 {
-    let at = 64 + 96 * n;
-    let mut i: usize = 0;
-    while i < ws.len() {
-        bits::put(s, at + 20 * i, 20, ws[i] as u64);
-        i += 1;
+    let m = ws.len();
+    let p = m / 2;
+    put_pairs(s, n, ws, p);
+    if m == 2 * p {
+        return;
     }
+    bits::put(s, 64 + 96 * n + 20 * (2 * p), 20, ws[2 * p] as u64);
 }

@@ -37,7 +37,7 @@ module _ {A : Type 0} where
   whenDone Done a b = a
   whenDone (Refused r) a b = b
 
--- Reading: the table; and the m region words at the front of the output
+-- Reading: the table and m; and the m region words at the front of the output
 abbrev pub noTable : Table
 noTable = record { n = 0; records = replicate mostTasks zeroRecord }
 
@@ -45,7 +45,7 @@ abbrev pub readOutcome : List ℕ → ℕ → ℕ → List ℕ → ℕ → Outco
 readOutcome f cabinet line catalogue room = firstOf (readAsks f cabinet line catalogue room)
 
 abbrev pub tableFor : Outcome → List ℕ → ReadAnswer
-tableFor o f = record { outcome = o; table = whenDone o (tableIn f) noTable }
+tableFor o f = record { outcome = o; table = whenDone o (tableIn f) noTable; words = whenDone o (wordsIn f) 0 }
 
 abbrev pub wordsFor : Outcome → List ℕ → List ℕ → List ℕ
 wordsFor o f out = whenDone o (regionWords f (tasksIn f) (wordsIn f) ++ drop (wordsIn f) out) out

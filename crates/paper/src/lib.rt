@@ -60,10 +60,11 @@ pub enum Outcome {
     Refused(Refusal),
 }
 
-// Reading. On a refusal the table is all zero.
+// Reading: the table, and how many region words stand at the front of the output. On a refusal both are zero.
 pub struct ReadAnswer {
     pub outcome: Outcome,
     pub table: Table,
+    pub words: usize,
 }
 
 // Writing: the number of bytes of the file, or a refusal.

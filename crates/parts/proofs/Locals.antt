@@ -94,13 +94,16 @@ module _ {M : Type 1} {𝓤 : URA M} {H : Heap 𝓤} {A : Atoms 𝓤} {K : Type 
       fsplit t $ forget t 0 refl $ move t (1 ∷ []) $ fsplit t $ move t (2 ∷ 0 ∷ []) $ free1 t $ free-all t τs (bs .1) vs (ty .1) E $ s)
 
   -- evaluation changes nothing, so it may go on in a context that is the same taken apart
-  opd-under : {Γ Γ′ : List (Item 𝓤)} {E : Env 𝓤 H} {x : Operand} {v : Val} → ent 𝓤 (⋆ 𝓤 H A Γ) (⋆ 𝓤 H A Γ′) → ent 𝓤 (⋆ 𝓤 H A Γ′) (⋆ 𝓤 H A Γ) → Opd K W Γ′ E x v → Opd K W Γ E x v
+  opd-under : {Γ Γ′ : List (Item 𝓤)} {E : Env 𝓤 H} {x : Operand} {v : Val} → ent 𝓤 (⋆ 𝓤 H A Γ) (⋆ 𝓤 H A Γ′) → ent 𝓤 (⋆ 𝓤 H A Γ′) (⋆ 𝓤 H A Γ)
+      → Opd K W Γ′ E x v → Opd K W Γ E x v
   opd-under {Γ} {Γ′} there back x = record { go = λ Kt h. via 𝓤 (⋆ 𝓤 H A Γ′) there (x .go Kt (via 𝓤 (⋆ 𝓤 H A Γ) back h)) }
 
-  opds-under : {Γ Γ′ : List (Item 𝓤)} {E : Env 𝓤 H} {xs : List Operand} {vs : List Val} → ent 𝓤 (⋆ 𝓤 H A Γ) (⋆ 𝓤 H A Γ′) → ent 𝓤 (⋆ 𝓤 H A Γ′) (⋆ 𝓤 H A Γ) → Opds K W Γ′ E xs vs → Opds K W Γ E xs vs
+  opds-under : {Γ Γ′ : List (Item 𝓤)} {E : Env 𝓤 H} {xs : List Operand} {vs : List Val} → ent 𝓤 (⋆ 𝓤 H A Γ) (⋆ 𝓤 H A Γ′) → ent 𝓤 (⋆ 𝓤 H A Γ′) (⋆ 𝓤 H A Γ)
+      → Opds K W Γ′ E xs vs → Opds K W Γ E xs vs
   opds-under {Γ} {Γ′} there back xs = record { go = λ Kt h. via 𝓤 (⋆ 𝓤 H A Γ′) there (xs .go Kt (via 𝓤 (⋆ 𝓤 H A Γ) back h)) }
 
-  reads-from : K → (E : Env 𝓤 H) (i : ℕ) (τs : List Ty) (bs : Blocks τs) (vs : List Val) → Typed τs vs → Stand 𝓤 H E i τs bs → {Γ : List (Item 𝓤)} → Opds K W (‵ (held τs bs vs) ∷ Γ) E (copies i τs) vs
+  reads-from : K → (E : Env 𝓤 H) (i : ℕ) (τs : List Ty) (bs : Blocks τs) (vs : List Val) → Typed τs vs → Stand 𝓤 H E i τs bs → {Γ : List (Item 𝓤)}
+      → Opds K W (‵ (held τs bs vs) ∷ Γ) E (copies i τs) vs
   reads-from t E i [] bs [] ty st = no-more t
   reads-from t E i [] bs (v ∷ vs) ty st = absurd ty
   reads-from t E i (τ ∷ τs) bs [] ty st = absurd ty
@@ -127,5 +130,6 @@ module _ {M : Type 1} {𝓤 : URA M} {H : Heap 𝓤} {A : Atoms 𝓤} {K : Type 
       opds-under {Γ = here} {Γ′ = ahead} (qed W here ∵ move ! (2 ∷ []) $ done !) (qed W ahead ∵ move ! (1 ∷ 2 ∷ []) $ done !)
       (reads-from t (e ∷ places τs bs E) 1 τs bs vs ty (next 𝓤 H e (places τs bs E) 0 τs bs (first 𝓤 H τs bs E)))
 
-  pub past-finds : K → (j : ℕ) (e : Ty × ℕ) (τs : List Ty) (bs : Blocks τs) (E : Env 𝓤 H) {Γ : List (Item 𝓤)} → Finds K W Γ (e ∷ places τs bs E) (place (past j τs) []) (spotOf 𝓤 H E j)
+  pub past-finds : K → (j : ℕ) (e : Ty × ℕ) (τs : List Ty) (bs : Blocks τs) (E : Env 𝓤 H) {Γ : List (Item 𝓤)}
+      → Finds K W Γ (e ∷ places τs bs E) (place (past j τs) []) (spotOf 𝓤 H E j)
   past-finds t j e τs bs E {Γ} = subst (λ (sp : Spot 𝓤 H). Finds K W Γ (e ∷ places τs bs E) (place (past j τs) []) sp) (past-spot 𝓤 H j e τs bs E) (from t (stop t))

@@ -39,8 +39,8 @@ module _ (number : ℕ) (cabinet house list r : RefT (List ℕ))
       → IsPart list 1 (record { from = at; count = stay }) r → IsName number cabinet house r
   name-done at stay e ea es cut =
       let is =
-          is-part 1 list _ _ _ (record { from = at; count = stay }) r chosen holds
-          (when-done o (namePart number (nameList number (now cabinet) (now house))) noPart e ∙ rw (es, ea, holds)) cut in
+      is-part 1 list _ _ _ (record { from = at; count = stay }) r chosen holds
+      (when-done o (namePart number (nameList number (now cabinet) (now house))) noPart e ∙ rw (es, ea, holds)) cut in
       record { bytes = is .0; place = is .1 }
 
 -- the last of the bytes that are left is a space, or isn't, or there is none

@@ -102,7 +102,8 @@ module _ {n : ℕ} where
   fits κs (s ∷ ss) ks a ws = (tt, fits κs ss (ks .1) (a .1) (ws .1))
 
   module _ {M : Type 1} (𝓤 : URA M) (H : Heap 𝓤) (A : Atoms 𝓤) where
-    pub none-had : (κs : Lfts n) (ss : List (Slot n)) (ks : Kepts ss) (a : Denots (typesAt ss κs)) (ws : Fins κs ss ks a) (vss : Valss (typesAt ss κs)) → ent 𝓤 (emp 𝓤) (sem 𝓤 H A (hasOf κs ss ks (dropped ss ks) a ws vss))
+    pub none-had : (κs : Lfts n) (ss : List (Slot n)) (ks : Kepts ss) (a : Denots (typesAt ss κs)) (ws : Fins κs ss ks a) (vss : Valss (typesAt ss κs))
+        → ent 𝓤 (emp 𝓤) (sem 𝓤 H A (hasOf κs ss ks (dropped ss ks) a ws vss))
     none-had κs [] ks a ws vss = id⊢ 𝓤 (emp 𝓤)
     none-had κs (s ∷ ss) ks a ws vss = via 𝓤 _ (emp∗ 𝓤 (emp 𝓤)) (monoR 𝓤 (emp 𝓤) (none-had κs ss (ks .1) (a .1) (ws .1) (vss .1)))
 

@@ -49,7 +49,7 @@ module _ (m : ℕ) where
   WordsPart = plain (λ κs. W.the-row (α κs))
 
   module _ {M : Type 1} (𝓤 : URA M) (H : Heap 𝓤) (A : Atoms 𝓤) (given : Given 𝓤 H A) (κs : Lfts (suc m)) where
-    unfoldable pub bytes-part : Struct 𝓤 H A given O.the-row bytes BytesPart (B′.mir (named 0)) O′.mir bytes-local κs
+    unfoldable pub bytes-part : Struct 𝓤 H A O.the-row bytes BytesPart (B′.mir (named 0)) O′.mir bytes-local κs
     bytes-part = record {
       copied = EL.copy O.the-type O′.the-copy 𝓤 H A given;
       outcome-typed = λ o u is. EL.lawful O.the-type O′.the-laws 𝓤 H A given tt .typed o (u ∷ []) is .0;
@@ -59,7 +59,7 @@ module _ (m : ℕ) where
       owned = λ o b u v. id⊢ 𝓤 _;
     }
 
-    unfoldable pub words-part : Struct 𝓤 H A given O.the-row words WordsPart (W′.mir (named 0)) O′.mir words-local κs
+    unfoldable pub words-part : Struct 𝓤 H A O.the-row words WordsPart (W′.mir (named 0)) O′.mir words-local κs
     words-part = record {
       copied = EL.copy O.the-type O′.the-copy 𝓤 H A given;
       outcome-typed = λ o u is. EL.lawful O.the-type O′.the-laws 𝓤 H A given tt .typed o (u ∷ []) is .0;

@@ -77,23 +77,23 @@ room-fits f catalogue room {n} {m} u e k =
 
 -- The outcome o was found. A refusal is the whole answer, and the output stays.
 pub turned-away : (o : Outcome) (f out : List ℕ) {r : Refusal} {x : Outcome} {a : ReadAnswer} → x ≡ o → x ≡ Refused r
-    → (a .outcome ≡ Refused r) × (a .table ≡ noTable) → (a ≡ tableFor o f) × (out ≡ wordsFor o f out)
-turned-away o f out e k h = rw (← e, k) (λ i. record { outcome = h .0 i; table = h .1 i }, refl)
+    → (a .outcome ≡ Refused r) × (a .table ≡ noTable) × (a .words ≡ 0) → (a ≡ tableFor o f) × (out ≡ wordsFor o f out)
+turned-away o f out e k h = rw (← e, k) (λ i. record { outcome = h .0 i; table = h .1 i; words = h .2 i }, refl)
 
 -- And else what was unpacked and put is the answer.
 pub answered : (o : Outcome) (f out : List ℕ) (n m : ℕ) (t : Table) (own : List ℕ) {x : Outcome} {out' : List ℕ} → x ≡ o → x ≡ Done
     → Unpacked f n m (t .records) own → t .n ≡ n → out' ≡ own ++ drop (length own) out
-    → (_≡_ {A = ReadAnswer} (record { outcome = Done; table = t }) (tableFor o f)) × (out' ≡ wordsFor o f out)
+    → (_≡_ {A = ReadAnswer} (record { outcome = Done; table = t; words = m }) (tableFor o f)) × (out' ≡ wordsFor o f out)
 answered o f out n m t own {out' = out'} e k u s h =
     let tasks : t .n ≡ tasksIn f = s ∙ u .tasks in
     let records : t .records ≡ recordsIn f (tasksIn f) = u .records ∙ ap (λ (k : ℕ). recordsIn f k) (u .tasks) in
     let words : out' ≡ regionWords f (tasksIn f) (wordsIn f) ++ drop (wordsIn f) out =
     h ∙ rw (u .regions, words-length f n m, u .tasks, u .words) in
-    rw (← e, k) (λ i. record { outcome = Done; table = record { n = tasks i; records = records i } }, words)
+    rw (← e, k) (λ i. record { outcome = Done; table = record { n = tasks i; records = records i }; words = u .words i }, words)
 
 -- The head turns the file away, or the rest has the answer.
 pub read-stops : (f : List ℕ) (cabinet line : ℕ) (catalogue out : List ℕ) (r : Refusal) {o : Outcome} {a : ReadAnswer}
-    → o ≡ firstOf (headAsks f cabinet line) → o ≡ Refused r → (a .outcome ≡ Refused r) × (a .table ≡ noTable)
+    → o ≡ firstOf (headAsks f cabinet line) → o ≡ Refused r → (a .outcome ≡ Refused r) × (a .table ≡ noTable) × (a .words ≡ 0)
     → (a ≡ readAnswer f cabinet line catalogue out) × (out ≡ readOut f cabinet line catalogue out)
 read-stops f cabinet line catalogue out r e k h =
     turned-away (firstOf (readAsks f cabinet line catalogue (length out))) f out refl

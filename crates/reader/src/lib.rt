@@ -75,12 +75,13 @@ fn body(
 }
 
 fn refused(r: Refusal) -> ReadAnswer
-    ensures { λ x. ⌜ (x .outcome ≡ Refused r) × (x .table ≡ noTable) ⌝ }
+    ensures { λ x. ⌜ (x .outcome ≡ Refused r) × (x .table ≡ noTable) × (x .words ≡ 0) ⌝ }
 {
     let t = unpack::no_table();
     ReadAnswer {
         outcome: Outcome::Refused(r),
         table: t,
+        words: 0,
     }
 }
 
@@ -116,6 +117,7 @@ fn rest(file: &[u8], catalogue: &[u32], out: &mut [u32]) -> ReadAnswer
             ReadAnswer {
                 outcome: Outcome::Done,
                 table: t,
+                words: m,
             }
         }
     }

@@ -1,5 +1,5 @@
 -- Both round trips as answers of the calls. `out` is what the writer was lent, `words` what the reader was lent for region words.
-use mathlib.Core.Path.{_≡_, refl, sym, ap, _∙_}
+use mathlib.Core.Path.{_≡_, refl, sym, ap, ap₂, _∙_}
 use mathlib.Core.List.{List, _++_}
 use Prim.Native.Nat.{ℕ, _^_, _≤_, _<_}
 use native.Mathlib.Omega.{arith}
@@ -33,25 +33,30 @@ file-kept t cabinet line own catalogue out size w =
     ap (λ (o : Outcome). take size (fileFor o t cabinet line own out)) (w .done)
     ∙ take-at (fileOf t cabinet line own) (drop (fileLength (t .n) (length own)) out) size (file-length t cabinet line own ∙ sym (w .size-is))
 
+-- the region words that the reader handed out: as many as it answered, from the front of the output
+abbrev pub handed : List ℕ → ℕ → ℕ → List ℕ → List ℕ → List ℕ
+handed f cabinet line catalogue words = take (readAnswer f cabinet line catalogue words .words) (readOut f cabinet line catalogue words)
+
 -- what the reader answers and writes where it is done
 module _ (f : List ℕ) (cabinet line : ℕ) (catalogue words : List ℕ) (done : readOutcome f cabinet line catalogue (length words) ≡ Done) where
-  answer-done : readAnswer f cabinet line catalogue words ≡ record { outcome = Done; table = tableIn f }
+  answer-done : readAnswer f cabinet line catalogue words ≡ record { outcome = Done; table = tableIn f; words = wordsIn f }
   answer-done = ap (λ (o : Outcome). tableFor o f) done
 
   out-done : readOut f cabinet line catalogue words ≡ regionWords f (tasksIn f) (wordsIn f) ++ drop (wordsIn f) words
   out-done = ap (λ (o : Outcome). wordsFor o f words) done
 
   -- its region words
-  words-done : take (wordsIn f) (readOut f cabinet line catalogue words) ≡ regionWords f (tasksIn f) (wordsIn f)
+  words-done : handed f cabinet line catalogue words ≡ regionWords f (tasksIn f) (wordsIn f)
   words-done =
-      ap (λ (x : List ℕ). take (wordsIn f) x) out-done
+      ap (λ (a : ReadAnswer). take (a .words) (readOut f cabinet line catalogue words)) answer-done
+      ∙ ap (λ (x : List ℕ). take (wordsIn f) x) out-done
       ∙ take-at (regionWords f (tasksIn f) (wordsIn f)) (drop (wordsIn f) words) (wordsIn f) (words-count f (tasksIn f) (wordsIn f))
 
 -- Written, then read: what the writer wrote, up to the length that it answered, reads as the same tasks, with zero records past n,
 -- and the reader, lent enough words, hands out the same region words.
 pub write-read : (t : Table) (cabinet line : ℕ) (own catalogue out words : List ℕ) (size : ℕ) → line < 2 ^ 16 → length own ≤ length words
     → writeAnswer t cabinet own catalogue out ≡ Write.File size
-    → (readAnswer (take size (writeOut t cabinet line own catalogue out)) cabinet line catalogue words ≡ record { outcome = Done; table = zeroPast t })
+    → (readAnswer (take size (writeOut t cabinet line own catalogue out)) cabinet line catalogue words ≡ record { outcome = Done; table = zeroPast t; words = length own })
     × (readOut (take size (writeOut t cabinet line own catalogue out)) cabinet line catalogue words ≡ own ++ drop (length own) words)
 write-read t cabinet line own catalogue out words size l h e =
     let f = fileOf t cabinet line own in
@@ -60,19 +65,19 @@ write-read t cabinet line own catalogue out words size l h e =
     let b = written-read t cabinet line own catalogue (length out) l (w .done) in
     let d = b .done (length words) h in
     let c : wordsIn f ≡ length own = sym (words-count f (tasksIn f) (wordsIn f)) ∙ ap length (b .words) in (
-      ap (λ (x : List ℕ). readAnswer x cabinet line catalogue words) k ∙ answer-done f cabinet line catalogue words d ∙ ap (λ (x : Table). record·answer x) (b .table),
+      ap (λ (x : List ℕ). readAnswer x cabinet line catalogue words) k ∙ answer-done f cabinet line catalogue words d ∙ ap₂ record·answer (b .table) c,
       ap (λ (x : List ℕ). readOut x cabinet line catalogue words) k ∙ out-done f cabinet line catalogue words d ∙ rw (b .words, c),
     )
   where
-    record·answer : Table → ReadAnswer
-    record·answer x = record { outcome = Done; table = x }
+    record·answer : Table → ℕ → ReadAnswer
+    record·answer x m = record { outcome = Done; table = x; words = m }
 
 -- Read, then written: the table that the reader answered and the region words that it handed out, written for the same plate with the
 -- same catalogue into room for the file, give the file's length and its bytes; the rest of what was lent stays.
 pub read-write : (f : List ℕ) (cabinet line : ℕ) (catalogue words out : List ℕ) → Bytes f → length f ≤ length out
     → readAnswer f cabinet line catalogue words .outcome ≡ Done
-    → (writeAnswer (readAnswer f cabinet line catalogue words .table) cabinet (take (wordsIn f) (readOut f cabinet line catalogue words)) catalogue out ≡ Write.File (length f))
-    × (writeOut (readAnswer f cabinet line catalogue words .table) cabinet line (take (wordsIn f) (readOut f cabinet line catalogue words)) catalogue out ≡ f ++ drop (length f) out)
+    → (writeAnswer (readAnswer f cabinet line catalogue words .table) cabinet (handed f cabinet line catalogue words) catalogue out ≡ Write.File (length f))
+    × (writeOut (readAnswer f cabinet line catalogue words .table) cabinet line (handed f cabinet line catalogue words) catalogue out ≡ f ++ drop (length f) out)
 read-write f cabinet line catalogue words out b h e =
     let t = tableIn f in
     let own = regionWords f (tasksIn f) (wordsIn f) in
@@ -81,11 +86,11 @@ read-write f cabinet line catalogue words out b h e =
     let d = read-taken f cabinet line catalogue (length words) (length out) e h in
     let s = read-written f cabinet line catalogue (length words) b e in
     let z : fileLength (tasksIn f) (length (regionWords f (tasksIn f) (wordsIn f))) ≡ length f = sym (file-length t cabinet line own) ∙ ap length s in (
-      ap (λ (x : Table). writeAnswer x cabinet (take (wordsIn f) (readOut f cabinet line catalogue words)) catalogue out) a
+      ap (λ (x : Table). writeAnswer x cabinet (handed f cabinet line catalogue words) catalogue out) a
           ∙ ap (λ (x : List ℕ). writeAnswer t cabinet x catalogue out) w
           ∙ ap (λ (o : Outcome). lengthFor o (fileLength (tasksIn f) (length own))) d
           ∙ ap (λ (x : ℕ). Write.File x) z,
-      ap (λ (x : Table). writeOut x cabinet line (take (wordsIn f) (readOut f cabinet line catalogue words)) catalogue out) a
+      ap (λ (x : Table). writeOut x cabinet line (handed f cabinet line catalogue words) catalogue out) a
           ∙ ap (λ (x : List ℕ). writeOut t cabinet line x catalogue out) w
           ∙ ap (λ (o : Outcome). fileFor o t cabinet line own out) d
           ∙ ap (λ (x : List ℕ). x ++ drop (fileLength (tasksIn f) (length own)) out) s
@@ -96,7 +101,7 @@ read-write f cabinet line catalogue words out b h e =
 pub read-differ : (f g : List ℕ) (cabinet line : ℕ) (catalogue catalogue' words words' : List ℕ) → Bytes f → Bytes g
     → readAnswer f cabinet line catalogue words .outcome ≡ Done
     → readAnswer f cabinet line catalogue words ≡ readAnswer g cabinet line catalogue' words'
-    → take (wordsIn f) (readOut f cabinet line catalogue words) ≡ take (wordsIn g) (readOut g cabinet line catalogue' words')
+    → handed f cabinet line catalogue words ≡ handed g cabinet line catalogue' words'
     → f ≡ g
 read-differ f g cabinet line catalogue catalogue' words words' a b d e w =
     let d' : readOutcome g cabinet line catalogue' (length words') ≡ Done = sym (ap (λ (x : ReadAnswer). x .outcome) e) ∙ d in

@@ -6,3 +6,4 @@ pub mod Alike
 pub mod Back
 pub mod Trips
 pub mod Calls
+pub mod Sample

@@ -1,82 +1,85 @@
--- `pack::put_words` meets its contract. The loop's invariant: i words are put.
-use Prim.Native.Nat.{_-_, _≤_}
-use mathlib.Core.Path.{_≡_, refl, _∙_}
+-- `pack::put_words` meets its contract: the pairs, and the last word where their number is odd.
+use Prim.Native.Nat.{_+_, _*_, _/_}
 use native.Mathlib.Omega.{arith}
 use lib.ListN.{length}
-use Rattle.paper.specs.File.{putWords}
-use Rattle.pack.proofs.Steps.{words-turn, words-done}
+use denote.Ref.{now}
+use Rattle.pack.proofs.Steps.{word-turn, words-done}
+use borrow.Author.Needs.{needs}
 use Rattle.pack.proofs.put_words.Statement.{statement}
 use Rattle.pack.proofs.put_words.Tie as tie
 
-abbrev Inv-loop : tie.InvT-loop
-Inv-loop s₀ n ws at i₀ s i = (i ≤ length ws) × (length s ≡ length s₀) × (s ≡ putWords s₀ n ws i)
+put-pairs-requires : tie.Need-put-pairs-requires
+put-pairs-requires c κs = search needs
 
-abbrev μ-loop : tie.MeasureT-loop
-μ-loop s₀ n ws at i₀ s i = length ws - i
+mul-if1 : tie.Need-mul-if1
+mul-if1 c = search needs
 
-mul-at : tie.Need-mul-at Inv-loop μ-loop
-mul-at c = omega arith
+same-length : tie.Need-same-length
+same-length c = search needs
 
-add-at : tie.Need-add-at Inv-loop μ-loop
-add-at c = omega arith
+returns : tie.Need-returns
+returns c = words-done _ _ _ _ _ (c .before .before .before .put-pairs .ensures) (omega arith)
 
-loop-holds : tie.Need-loop-holds Inv-loop μ-loop
-unfolding putWords
-loop-holds c = (omega arith, refl, refl)
+mul-put : tie.Need-mul-put
+mul-put c = search needs
 
-mul-put : tie.Need-mul-put Inv-loop μ-loop
-mul-put c = omega arith
+add-put : tie.Need-add-put
+add-put c = search needs
 
-add-put : tie.Need-add-put Inv-loop μ-loop
-add-put c = omega arith
+mul-put-2 : tie.Need-mul-put-2
+mul-put-2 c = search needs
 
-mul-put-2 : tie.Need-mul-put-2 Inv-loop μ-loop
-mul-put-2 c = omega arith
+mul-put-3 : tie.Need-mul-put-3
+mul-put-3 c = search needs
 
-shared-slice-read-put : tie.Need-shared-slice-read-put Inv-loop μ-loop
-shared-slice-read-put c = omega arith
+add-put-2 : tie.Need-add-put-2
+add-put-2 c = search needs
 
-cast-put : tie.Need-cast-put Inv-loop μ-loop
-cast-put c = omega (arith, c .shared-slice-known2 .given (c .before .before .before .loop .i))
+mul-put-4 : tie.Need-mul-put-4
+mul-put-4 c = search needs
 
-put-requires : tie.Need-put-requires Inv-loop μ-loop
-put-requires c κs = omega arith
+mul-put-5 : tie.Need-mul-put-5
+mul-put-5 c = search needs
 
-add-i : tie.Need-add-i Inv-loop μ-loop
-add-i c = omega arith
+shared-slice-read-put : tie.Need-shared-slice-read-put
+shared-slice-read-put c = search needs
 
-loop-less : tie.Need-loop-less Inv-loop μ-loop
-loop-less c = omega arith
+cast-put : tie.Need-cast-put
+cast-put c =
+    let a = c .before .before .before .before .before .before .before .before .before .args in
+    omega (arith, c .shared-slice-known2 .given (2 * (length (now (a .ws)) / 2)))
 
-loop-again : tie.Need-loop-again Inv-loop μ-loop
-loop-again c =
-    let l = c .before .before .before .before .before .before .loop in
-    let p = c .before .before .put in
-    (omega arith, p .kept .0 ∙ l .inv .1, words-turn _ _ _ (l .i) (l .inv .2) (p .ensures))
+put-requires : tie.Need-put-requires
+put-requires c κs = search needs
 
-same-length : tie.Need-same-length Inv-loop μ-loop
-same-length c = c .before .loop .inv .1
+same-length-2 : tie.Need-same-length-2
+same-length-2 c = search needs
 
-returns : tie.Need-returns Inv-loop μ-loop
-returns c = words-done _ _ _ (c .before .loop .i) _ (c .before .loop .inv .2) (omega arith)
+returns-2 : tie.Need-returns-2
+returns-2 c =
+    let w = c .before .before in
+    let h = w .before .before .before .before .before .before in
+    let a = h .before .before .before .before .args in
+    let p = 2 * (length (now (a .ws)) / 2) in
+    words-done _ _ _ (p + 1) _ (word-turn _ _ _ p (h .put-pairs .ensures) (w .put .ensures)) (omega arith)
 
 pub put-words-spec : {M : Type 1} → statement M
 put-words-spec =
     tie.close
     (tie.spec
-    Inv-loop
-    μ-loop
-    mul-at
-    add-at
-    loop-holds
+    put-pairs-requires
+    mul-if1
+    same-length
+    returns
     mul-put
     add-put
     mul-put-2
+    mul-put-3
+    add-put-2
+    mul-put-4
+    mul-put-5
     shared-slice-read-put
     cast-put
     put-requires
-    add-i
-    loop-less
-    loop-again
-    same-length
-    returns)
+    same-length-2
+    returns-2)

@@ -35,12 +35,14 @@ bytes-from-requires-2 c κs = omega (arith, kept-requires (c .before) κs)
 returns : tie.Need-returns
 returns c =
     let list = c .before .before .before .name-list .ensures in
-    name-refused _ _ _ _ _ (list .0) (list .1) _ (sym (c .before .enum-told .given .1) ∙ c .before .before .before .before .before .before .pre) (c .bytes-from .ensures)
+    name-refused _ _ _ _ _ (list .0) (list .1) _
+    (sym (c .before .enum-told .given .1) ∙ c .before .before .before .before .before .before .pre) (c .bytes-from .ensures)
 
 returns-2 : tie.Need-returns-2
 returns-2 c =
     let list = c .before .before .before .before .before .name-list .ensures in
-    name-done _ _ _ _ _ (list .0) (list .1) _ _ (sym (c .before .before .before .enum-told2 .given .1) ∙ c .before .before .before .before .before .before .before .before .pre)
+    name-done _ _ _ _ _ (list .0) (list .1) _ _
+    (sym (c .before .before .before .enum-told2 .given .1) ∙ c .before .before .before .before .before .before .before .before .pre)
     (c .before .before .name-start .ensures .0) (c .before .kept .ensures .0) (c .bytes-from2 .ensures)
 
 pub name-for-spec : {M : Type 1} → statement M

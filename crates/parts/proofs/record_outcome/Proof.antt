@@ -40,8 +40,8 @@ returns-2 : tie.Need-returns-2
 returns-2 c =
     let o = c .before .before .before .before .before in
     let a = o .before .before .before .args in
-    number-asked (now (a .file)) (a .cabinet .0) (a .line .0) (now (a .catalogue)) (a .number) _ _ _ (sym (c .before .before .before .enum-told .given .1) ∙ o .file-outcome .ensures)
-    (c .before .before .get .ensures .0) (c .before .is-record .ensures) (c .ask .ensures)
+    number-asked (now (a .file)) (a .cabinet .0) (a .line .0) (now (a .catalogue)) (a .number) _ _ _
+    (sym (c .before .before .before .enum-told .given .1) ∙ o .file-outcome .ensures) (c .before .before .get .ensures .0) (c .before .is-record .ensures) (c .ask .ensures)
 
 pub record-outcome-spec : {M : Type 1} → statement M
 record-outcome-spec =

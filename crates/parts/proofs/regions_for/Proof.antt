@@ -18,7 +18,8 @@ enum-told-2 c = search needs
 record-of-requires : tie.Need-record-of-requires
 record-of-requires c κs =
     let start = c .before .before .before .before in
-    in-table (start .args .t) (now (start .args .own)) (now (start .args .catalogue)) (start .args .number) (sym (c .enum-told2 .given .1) ∙ start .pre)
+    let a = start .args in
+    in-table (a .t) (now (a .own)) (now (a .catalogue)) (a .number) (sym (c .enum-told2 .given .1) ∙ start .pre)
 
 cast-from : tie.Need-cast-from
 cast-from c = search needs
@@ -33,8 +34,9 @@ words-from-requires-2 : tie.Need-words-from-requires-2
 words-from-requires-2 c κs =
     let d = c .before .before .before .before in
     let start = d .before .before .before .before in
+    let a = start .args in
     rw (c .source-list .ensures .1)
-    (in-list (start .args .t) (now (start .args .own)) (now (start .args .catalogue)) (start .args .number) (sym (d .enum-told2 .given .1) ∙ start .pre) _ (c .before .before .before .record-of .ensures))
+    (in-list (a .t) (now (a .own)) (now (a .catalogue)) (a .number) (sym (d .enum-told2 .given .1) ∙ start .pre) _ (c .before .before .before .record-of .ensures))
 
 returns : tie.Need-returns
 returns c = regions-refused _ _ _ _ _ _ (sym (c .before .enum-told .given .1) ∙ c .before .before .before .before .before .pre) (c .words-from .ensures)
@@ -43,7 +45,8 @@ returns-2 : tie.Need-returns-2
 returns-2 c =
     let d = c .before .before .before .before .before in
     let list = c .before .source-list .ensures in
-    regions-done _ _ _ _ _ _ _ (sym (d .enum-told2 .given .1) ∙ d .before .before .before .before .pre) (c .before .before .before .before .record-of .ensures) (list .0) (list .1) (c .words-from2 .ensures)
+    regions-done _ _ _ _ _ _ _ (sym (d .enum-told2 .given .1) ∙ d .before .before .before .before .pre)
+    (c .before .before .before .before .record-of .ensures) (list .0) (list .1) (c .words-from2 .ensures)
 
 pub regions-for-spec : {M : Type 1} → statement M
 regions-for-spec =

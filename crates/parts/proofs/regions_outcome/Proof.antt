@@ -1,14 +1,14 @@
 -- Each way out is the first ask that applies; behind the first two the number is a record's.
-use Rattle.paper.specs.Regions.{recordRegionsHold}
-use lib.ListN.{length}
-use denote.Ref.{now}
 use mathlib.Core.Path.{refl, sym, ap, _∙_}
 use mathlib.Core.Bool.{not}
+use borrow.Author.Needs.{needs}
 use borrow.Author.Tests.{not-false}
+use lib.ListN.{length}
+use denote.Ref.{now}
+use Rattle.paper.specs.Regions.{recordRegionsHold}
 use Rattle.paper.specs.declared.Refusal.the-variants.{WrongCounts, NoSuchPart, BadRegions}
 use Rattle.checks.proofs.Asks.{asked, stops, goes-on}
 use Rattle.parts.proofs.RegionParts.{numbered}
-use borrow.Author.Needs.{needs}
 use Rattle.parts.proofs.regions_outcome.Statement.{statement}
 use Rattle.parts.proofs.regions_outcome.Tie as tie
 
@@ -30,7 +30,9 @@ returns-2 c =
 record-of-requires : tie.Need-record-of-requires
 record-of-requires c κs =
     let d = c .before .before in
-    numbered _ (length (now (c .before .before .before .before .before .before .args .own))) _ (sym (d .before .counts-in-range .ensures) ∙ not-false _ (d .if1 .left)) (sym (c .before .is-record .ensures) ∙ not-false _ (c .if2 .left))
+    let a = d .before .before .before .before .args in
+    numbered _ (length (now (a .own))) _ (sym (d .before .counts-in-range .ensures) ∙ not-false _ (d .if1 .left))
+    (sym (c .before .is-record .ensures) ∙ not-false _ (c .if2 .left))
 
 record-regions-hold-requires : tie.Need-record-regions-hold-requires
 record-regions-hold-requires c κs = search needs
@@ -45,7 +47,8 @@ returns-3 c =
     let a = d .before .before .before .before .args in
     goes-on WrongCounts (ap not (sym (d .before .counts-in-range .ensures)) ∙ d .if1 .left)
     (goes-on NoSuchPart (ap not (sym (e .before .is-record .ensures)) ∙ e .if2 .left)
-    (asked BadRegions (c .ask .ensures) (ap not (c .before .record-regions-hold .ensures ∙ ap (recordRegionsHold (now (a .own)) (now (a .catalogue))) (c .before .before .record-of .ensures))) refl))
+    (asked BadRegions (c .ask .ensures)
+    (ap not (c .before .record-regions-hold .ensures ∙ ap (recordRegionsHold (now (a .own)) (now (a .catalogue))) (c .before .before .record-of .ensures))) refl))
 
 pub regions-outcome-spec : {M : Type 1} → statement M
 regions-outcome-spec =

@@ -1,0 +1,290 @@
+//! Speed of the proved core beside the second program, in one process: the same work on the same
+//! inputs, both optimised, as a ratio (above 1 the core is quicker). Not a test: nothing here fails
+//! on a time. `bash tools/bench` builds and runs it.
+
+#[path = "../second/analysis.rs"]
+mod analysis;
+#[path = "../second/bits.rs"]
+mod bits;
+#[path = "../second/checks.rs"]
+mod checks;
+#[path = "../second/file.rs"]
+mod file;
+#[path = "../second/lengths.rs"]
+mod lengths;
+#[path = "../second/random.rs"]
+mod random;
+#[path = "../second/seal.rs"]
+mod seal;
+#[path = "../second/table.rs"]
+mod table;
+
+use random::Random;
+use std::hint::black_box;
+use std::time::{Duration, Instant};
+use table::*;
+
+/// The core's calls, by numbers and slices (crates/bench). A table is the 289 bytes of a request's.
+mod core {
+    extern "C" {
+        pub fn bench_read(
+            file: *const u8,
+            file_len: usize,
+            cabinet: u32,
+            line: u16,
+            out: *mut u32,
+            out_len: usize,
+        ) -> u64;
+        pub fn bench_write(
+            table: *const u8,
+            table_len: usize,
+            own: *const u32,
+            own_len: usize,
+            out: *mut u8,
+            out_len: usize,
+        ) -> u64;
+        pub fn bench_times(table: *const u8, table_len: usize) -> u64;
+        pub fn bench_tolerances(table: *const u8, table_len: usize) -> u64;
+        pub fn bench_passes(
+            n: usize,
+            c: &[u64; 8],
+            t: &[u64; 8],
+            d: &[u64; 8],
+            p: &[u64; 8],
+            h: &[u64; 8],
+        ) -> bool;
+    }
+}
+
+const PLATE: Plate = Plate {
+    cabinet: 70_001,
+    line: 12,
+};
+
+fn main() {
+    println!("| work | core | second | ratio |\n|---|---|---|---|");
+    reading_and_writing();
+    analysis_of(6);
+    analysis_of(8);
+    tolerance_of_a_long_deadline();
+}
+
+/// A full eight-task file with 100 regions.
+fn reading_and_writing() {
+    let mut table = Table {
+        n: 8,
+        ..Table::default()
+    };
+    for (k, record) in table.records.iter_mut().enumerate() {
+        *record = Record {
+            cost: 12,
+            period: 1000 + k as u32,
+            deadline: 1000,
+            priority: k as u32 + 1,
+            threshold: 1,
+            first: 12 * k as u32,
+            count: 12,
+            name: k as u32,
+            ..Record::default()
+        };
+    }
+    let own = vec![1; 100];
+    let mut made = vec![0; 356];
+    let length = file::write(PLATE, &table, &own, &[], &mut made).expect("it is a legal table");
+    assert_eq!(length, 356);
+    let mut words = vec![0u32; 100];
+    let read_core = measure(20_000, || unsafe {
+        core::bench_read(
+            made.as_ptr(),
+            made.len(),
+            PLATE.cabinet,
+            PLATE.line,
+            words.as_mut_ptr(),
+            words.len(),
+        )
+    });
+    let mut other = vec![0u32; 100];
+    let read_second = measure(20_000, || {
+        file::read(PLATE, &[], black_box(&made), &mut other).is_ok() as u64
+    });
+    assert_eq!(words, other);
+    say("read, 8 tasks and 100 regions", read_core, read_second);
+
+    let bytes = table_bytes(&table);
+    let mut file_core = vec![0u8; 356];
+    let write_core = measure(20_000, || unsafe {
+        core::bench_write(
+            bytes.as_ptr(),
+            bytes.len(),
+            own.as_ptr(),
+            own.len(),
+            file_core.as_mut_ptr(),
+            356,
+        )
+    });
+    let mut file_second = vec![0u8; 356];
+    let write_second = measure(20_000, || {
+        file::write(PLATE, black_box(&table), &own, &[], &mut file_second).is_ok() as u64
+    });
+    assert_eq!(file_core, file_second);
+    say("write, 8 tasks and 100 regions", write_core, write_second);
+}
+
+/// Random tables of n tasks, loads from 60 to 105 percent, assigned.
+fn analysis_of(n: usize) {
+    let random = &mut Random::new(n as u64);
+    let tables: Vec<Table> = (0..200).map(|_| random_table(random, n)).collect();
+    let bytes: Vec<Vec<u8>> = tables.iter().map(table_bytes).collect();
+    let times_core = measure(20, || {
+        bytes
+            .iter()
+            .map(|b| unsafe { core::bench_times(b.as_ptr(), b.len()) })
+            .sum()
+    });
+    let times_second = measure(20, || {
+        tables
+            .iter()
+            .map(|t| {
+                analysis::response_times(black_box(t))
+                    .expect("assigned")
+                    .iter()
+                    .map(|r| r.unwrap_or(0) as u64)
+                    .sum::<u64>()
+            })
+            .sum()
+    });
+    say(
+        &format!("response times, 200 random tables of {n}"),
+        times_core,
+        times_second,
+    );
+
+    let columns: Vec<analysis::Tasks> = tables.iter().map(analysis::Tasks::of).collect();
+    let wide: Vec<([u64; 8], [u64; 8])> = columns
+        .iter()
+        .map(|y| (y.priority.map(u64::from), y.threshold.map(u64::from)))
+        .collect();
+    let passes_core = measure(40, || {
+        columns
+            .iter()
+            .zip(&wide)
+            .map(|(y, (p, h))| unsafe {
+                core::bench_passes(y.n, &y.cost, &y.period, &y.deadline, p, h) as u64
+            })
+            .sum()
+    });
+    let passes_second = measure(40, || {
+        columns
+            .iter()
+            .map(|y| analysis::passes(black_box(y)) as u64)
+            .sum()
+    });
+    say(
+        &format!("pass test, 200 random tables of {n}"),
+        passes_core,
+        passes_second,
+    );
+}
+
+/// The lowest of eight tasks has deadline 1,000,000.
+fn tolerance_of_a_long_deadline() {
+    let mut table = Table {
+        n: 8,
+        ..Table::default()
+    };
+    for (k, record) in table.records.iter_mut().enumerate() {
+        let period = if k == 7 {
+            1_000_000
+        } else {
+            900 + 37 * k as u32
+        };
+        *record = Record {
+            cost: 90,
+            period,
+            deadline: period,
+            priority: k as u32 + 1,
+            threshold: 1,
+            ..Record::default()
+        };
+    }
+    let bytes = table_bytes(&table);
+    let core = measure(50, || unsafe {
+        core::bench_tolerances(bytes.as_ptr(), bytes.len())
+    });
+    let second = measure(50, || {
+        lengths::tolerances(black_box(&table))
+            .expect("assigned")
+            .iter()
+            .sum::<i64>() as u64
+    });
+    say(
+        "tolerances, deadline 1,000,000 below seven tasks",
+        core,
+        second,
+    );
+}
+
+fn random_table(random: &mut Random, n: usize) -> Table {
+    let mut table = Table {
+        n: n as u8,
+        ..Table::default()
+    };
+    let load = random.from(60, 105) as u64;
+    for k in 0..n {
+        let period = random.from(20, 2000);
+        let cost = ((period as u64 * load / 100 / n as u64).max(1)) as u32;
+        table.records[k] = Record {
+            cost,
+            period,
+            deadline: period,
+            priority: k as u32 + 1,
+            threshold: random.from(1, k as u32 + 1),
+            ..Record::default()
+        };
+    }
+    table
+}
+
+fn table_bytes(table: &Table) -> Vec<u8> {
+    let mut bytes = vec![table.n];
+    for r in &table.records {
+        for word in [
+            r.cost,
+            r.period,
+            r.deadline,
+            r.priority,
+            r.threshold,
+            r.source.bit(),
+            r.first,
+            r.count,
+            r.name,
+        ] {
+            bytes.extend(word.to_be_bytes());
+        }
+    }
+    bytes
+}
+
+/// The shortest of several runs of `times` calls, and what they came to, so that none is left out.
+fn measure(times: u32, mut call: impl FnMut() -> u64) -> (Duration, u64) {
+    let mut best = Duration::MAX;
+    let mut sum = 0;
+    for _ in 0..7 {
+        let start = Instant::now();
+        sum = 0;
+        for _ in 0..times {
+            sum += black_box(call());
+        }
+        best = best.min(start.elapsed() / times);
+    }
+    (best, sum)
+}
+
+fn say(work: &str, core: (Duration, u64), second: (Duration, u64)) {
+    println!(
+        "| {work} | {:.2?} | {:.2?} | {:.2} |",
+        core.0,
+        second.0,
+        second.0.as_secs_f64() / core.0.as_secs_f64()
+    );
+}

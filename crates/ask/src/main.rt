@@ -1,0 +1,88 @@
+// Answers a stream of requests from standard input (docs/ASK.md): every public call of the core, and on one line each
+// answer with the whole of the memory that was lent.
+mod files;
+mod handing;
+mod rows;
+mod times;
+
+ghost use Prim.Native.Nat.{_≤_};
+ghost use lib.ListN.{length};
+
+// A number that no run uses up.
+const MOST_REQUESTS: u64 = 18446744073709551615;
+
+const LONGEST_BODY: usize = 4096;
+
+// The lines of a bad request, after which the program ends.
+fn bad(buf: &mut [u8]) -> bool {
+    let end = say::word(buf, 0, b"bad request\n");
+    text::flush(buf, end);
+    false
+}
+
+// The answer to a request that is whole.
+fn answer(buf: &mut [u8], kind: u8, body: &[u8], words: &mut [u32], bytes: &mut [u8]) -> usize
+    ensures { λ r. ⌜ r ≤ length (now (buf .entry)) ⌝ }
+{
+    match kind {
+        1 => files::read(buf, body, words),
+        2 => files::write(buf, body, bytes),
+        3 => times::response_times(buf, body),
+        4 => times::tolerances(buf, body),
+        5 => times::lengths(buf, body),
+        6 => times::region_check(buf, body),
+        7 => rows::first(buf, body, bytes),
+        8 => rows::next(buf, body, bytes),
+        9 => handing::record(buf, body),
+        10 => handing::regions(buf, body),
+        _ => handing::name(buf, body),
+    }
+}
+
+// Reads a body of the length that is lent, and answers the request. Says whether to go on.
+fn respond(buf: &mut [u8], kind: u8, body: &mut [u8], words: &mut [u32], bytes: &mut [u8]) -> bool {
+    let got = io::read_full(libc::STDIN_FILENO, body);
+    if got < body.len() {
+        return bad(buf);
+    }
+    if !request::is_whole(kind, body) {
+        return bad(buf);
+    }
+    let said = answer(buf, kind, body, words, bytes);
+    let end = say::newline(buf, said);
+    text::flush(buf, end);
+    true
+}
+
+fn respond_next(buf: &mut [u8], words: &mut [u32], bytes: &mut [u8]) -> bool {
+    let mut head = [0u8; 3];
+    let got = io::read_full(libc::STDIN_FILENO, &mut head);
+    if got == 0 {
+        return false;
+    }
+    if got < 3 {
+        return bad(buf);
+    }
+    let length = request::two_at(&head, 1);
+    if LONGEST_BODY < length {
+        return bad(buf);
+    }
+    let mut body = [0u8; LONGEST_BODY];
+    let used = fronts::of_bytes(&body, length);
+    respond(buf, head[0], &mut body[..used], words, bytes)
+}
+
+fn respond_all(buf: &mut [u8], words: &mut [u32], bytes: &mut [u8]) {
+    let mut turns = MOST_REQUESTS;
+    while turns > 0 && respond_next(buf, words, bytes) {
+        turns -= 1;
+    }
+}
+
+// What is lent to a call is a front of `words` or of `bytes`, as long as the request says.
+fn main() {
+    let mut buf = io::large_buffer();
+    let mut words = [0u32; 65536];
+    let mut bytes = [0u8; 65536];
+    respond_all(&mut buf, &mut words, &mut bytes);
+}

@@ -1,0 +1,2 @@
+-- The law that the proofs of `fronts` share.
+pub mod Law

@@ -1,0 +1,14 @@
+-- `fronts::of_words` answers at most the length. Assumes nothing.
+use native.Mathlib.Omega.{arith}
+use Rattle.fronts.proofs.Law.{front}
+use Rattle.fronts.proofs.of_words.Statement.{statement}
+use Rattle.fronts.proofs.of_words.Tie as tie
+
+returns : tie.Need-returns
+returns c = (front _ _ (omega arith), omega arith)
+
+returns-2 : tie.Need-returns-2
+returns-2 c = (front _ _ (omega arith), omega arith)
+
+pub of-words-spec : {M : Type 1} → statement M
+of-words-spec = tie.close (tie.spec returns returns-2)

@@ -1,0 +1,2 @@
+-- What the contracts of `fronts` cite.
+pub mod Front

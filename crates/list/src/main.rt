@@ -1,0 +1,126 @@
+// Lists every passing assignment of a cabinet file. From standard input: five plate bytes (cabinet 24, line 16), then the
+// file. Its regions stand in the file: the catalogue is empty.
+ghost use Prim.Native.Nat.{_≤_};
+ghost use lib.ListN.{length};
+use paper::MOST_TASKS;
+use paper::Outcome;
+use paper::Refusal;
+use paper::RowAnswer;
+use paper::Table;
+
+const PLATE_BYTES: usize = 5;
+
+// As many numbers as the longest row has.
+const ROW: usize = 2 * MOST_TASKS;
+
+// A number that no run uses up: a row takes longer than a nanosecond.
+const MOST_ROWS: u64 = 18446744073709551615;
+
+fn is_row(answer: RowAnswer) -> bool {
+    match answer {
+        RowAnswer::Row => true,
+        _ => false,
+    }
+}
+
+// The passing row after the one in `row`, put in its place.
+fn step(t: Table, row: &mut [u8]) -> bool {
+    let mut given = [0u8; ROW];
+    let n = fronts::copy_bytes(row, &mut given);
+    is_row(listing::next_row(t, &given[..n], row))
+}
+
+fn wide(x: u8) -> u64 {
+    x as u64
+}
+
+fn put_row(buf: &mut [u8], at: usize, row: &[u8]) -> usize
+    requires { ⌜ at ≤ length (now buf) ⌝ }
+    ensures { λ r. ⌜ r ≤ length (now (buf .entry)) ⌝ }
+{
+    if row.len() == 0 {
+        return at;
+    }
+    let start = text::room(buf, at, 4);
+    let first = text::put_decimal(buf, start, wide(row[0]));
+    let rest = say::bytes(buf, first, &row[1..]);
+    say::newline(buf, rest)
+}
+
+// A word and a number on a line of their own.
+fn put_count(buf: &mut [u8], at: usize, word: &[u8], number: u64) -> usize
+    requires { ⌜ at ≤ length (now buf) ⌝ }
+    ensures { λ r. ⌜ r ≤ length (now (buf .entry)) ⌝ }
+{
+    let counted = say::count(buf, at, word, number);
+    say::newline(buf, counted)
+}
+
+fn put_end(buf: &mut [u8], at: usize, rows: u64) -> usize
+    requires { ⌜ at ≤ length (now buf) ⌝ }
+    ensures { λ r. ⌜ r ≤ length (now (buf .entry)) ⌝ }
+{
+    put_count(buf, at, b"end", rows)
+}
+
+// Every row, and how many there are. `row` has room for the numbers of one, and no more.
+fn put_rows(buf: &mut [u8], at: usize, t: Table, row: &mut [u8]) -> usize
+    requires { ⌜ at ≤ length (now buf) ⌝ }
+    ensures { λ r. ⌜ r ≤ length (now (buf .entry)) ⌝ }
+{
+    let mut end = at;
+    let mut rows: u64 = 0;
+    let mut found = is_row(listing::first_row(t, row));
+    while rows < MOST_ROWS && found {
+        end = put_row(buf, end, row);
+        rows += 1;
+        found = step(t, row);
+    }
+    put_end(buf, end, rows)
+}
+
+fn put_table(buf: &mut [u8], t: Table) -> usize
+    ensures { λ r. ⌜ r ≤ length (now (buf .entry)) ⌝ }
+{
+    let n = t.n;
+    let start = put_count(buf, 0, b"tasks", n as u64);
+    let mut row = [0u8; ROW];
+    let numbers = if n < MOST_TASKS { 2 * n } else { ROW };
+    let used = fronts::of_bytes(&row, numbers);
+    put_rows(buf, start, t, &mut row[..used])
+}
+
+fn put_refused(buf: &mut [u8], r: Refusal) -> usize
+    ensures { λ x. ⌜ x ≤ length (now (buf .entry)) ⌝ }
+{
+    let said = say::refused(buf, 0, r);
+    say::newline(buf, said)
+}
+
+// There is room for the words of any file, so that 12 is never the answer.
+fn put_list(buf: &mut [u8], input: &[u8]) -> usize
+    ensures { λ r. ⌜ r ≤ length (now (buf .entry)) ⌝ }
+{
+    if input.len() < PLATE_BYTES {
+        return put_refused(buf, Refusal::Short);
+    }
+    let cabinet = request::plate_cabinet(input);
+    let line = request::plate_line(input);
+    let catalogue: [u32; 0] = [];
+    let mut words = [0u32; 100];
+    let answer = reader::read(&input[PLATE_BYTES..], cabinet, line, &catalogue, &mut words);
+    let outcome = answer.outcome;
+    match outcome {
+        Outcome::Refused(r) => put_refused(buf, r),
+        Outcome::Done => put_table(buf, answer.table),
+    }
+}
+
+// A longer input is longer than any file, so that bytes past these change nothing.
+fn main() {
+    let mut input = [0u8; 512];
+    let n = io::read_full(libc::STDIN_FILENO, &mut input);
+    let mut buf = io::large_buffer();
+    let end = put_list(&mut buf, &input[..n]);
+    text::flush(&buf, end);
+}

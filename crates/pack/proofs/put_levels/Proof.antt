@@ -1,0 +1,24 @@
+-- `pack::put_levels` meets its contract.
+use Rattle.paper.specs.Bits.{putFields}
+use borrow.Author.Needs.{needs}
+use Rattle.pack.proofs.put_levels.Statement.{statement}
+use Rattle.pack.proofs.put_levels.Tie as tie
+
+put-requires : tie.Need-put-requires
+put-requires c κs = search needs
+
+add-put : tie.Need-add-put
+add-put c = search needs
+
+put-requires-2 : tie.Need-put-requires-2
+put-requires-2 c κs = search needs
+
+same-length : tie.Need-same-length
+same-length c = search needs
+
+returns : tie.Need-returns
+unfolding putFields
+returns c = cc
+
+pub put-levels-spec : {M : Type 1} → statement M
+put-levels-spec = tie.close (tie.spec put-requires add-put put-requires-2 same-length returns)

@@ -1,0 +1,2 @@
+-- What the proofs of `say` share.
+pub mod Size

@@ -1,0 +1,941 @@
+//! The stored cases: for the ask protocol a stream of explicit requests that reaches every answer
+//! and every refusal number of every call, at the numbers' edges, and some small streams and
+//! inputs that stand in a file each. Nothing here is random.
+
+use crate::file;
+use crate::generate::*;
+use crate::table::*;
+use std::fmt::Write as _;
+use std::io;
+
+/// One request of the stream, and a few words that say what it tries.
+struct Case {
+    kind: u8,
+    what: &'static str,
+    body: Vec<u8>,
+}
+
+/// The calls by kind, with the numbers that document 01 says each of them asks.
+const CALLS: [(&str, &[u8]); 11] = [
+    ("read", &[1, 2, 3, 4, 5, 6, 7, 8, 9, 10, 11, 12]),
+    ("write", &[5, 9, 10, 11, 12]),
+    ("response times", &[5, 9, 10, 14]),
+    ("tolerances", &[5, 9, 10, 14, 15]),
+    ("lengths", &[5, 9, 10, 14, 15, 16]),
+    ("region check", &[5, 9, 10, 11, 14, 15, 16]),
+    ("first row", &[5, 9, 12]),
+    ("next row", &[5, 9, 12, 17]),
+    ("record", &[1, 2, 3, 4, 5, 6, 7, 8, 9, 10, 11, 13]),
+    ("regions", &[5, 11, 13]),
+    ("name", &[9, 13]),
+];
+
+const PLATE: Plate = Plate {
+    cabinet: 70_002,
+    line: 12,
+};
+
+/// The stream's requests in their order.
+struct Stream(Vec<Case>);
+
+fn request(kind: u8, body: &[u8]) -> Vec<u8> {
+    let mut request = vec![kind];
+    put_two(&mut request, body.len() as u32);
+    request.extend(body);
+    request
+}
+
+impl Case {
+    fn request(&self) -> Vec<u8> {
+        request(self.kind, &self.body)
+    }
+
+    /// The line that answers it.
+    fn answer(&self) -> String {
+        let mut output = Vec::new();
+        crate::ask::run(&self.request()[..], &mut output).expect("an answer");
+        String::from_utf8(output)
+            .expect("text")
+            .trim_end()
+            .to_string()
+    }
+
+    /// The number of its refusal, if it is turned away.
+    fn refusal(&self) -> Option<u8> {
+        let answer = self.answer();
+        answer
+            .strip_prefix("refused ")?
+            .split(' ')
+            .next()?
+            .parse()
+            .ok()
+    }
+}
+
+/// The stream of all requests. The last one is a bad request, which ends it.
+pub fn stream() -> Vec<u8> {
+    let mut stream: Vec<u8> = all().iter().flat_map(Case::request).collect();
+    stream.extend([12, 0, 0]);
+    stream
+}
+
+fn all() -> Vec<Case> {
+    let mut stream = Stream(Vec::new());
+    reading(&mut stream);
+    writing(&mut stream);
+    response_times(&mut stream);
+    tolerances_and_lengths(&mut stream, 4);
+    tolerances_and_lengths(&mut stream, 5);
+    region_check(&mut stream);
+    rows(&mut stream);
+    records(&mut stream);
+    regions(&mut stream);
+    names(&mut stream);
+    stream.0
+}
+
+// ---- tables and files
+
+const A: (u32, u32, u32) = (2, 5, 5);
+const B: (u32, u32, u32) = (4, 10, 10);
+
+/// (cost, period, deadline) each, one own region that is the whole cost, named 0, 1, and so on.
+fn unassigned(tasks: &[(u32, u32, u32)]) -> (Table, Vec<u32>) {
+    let mut table = Table {
+        n: tasks.len() as u8,
+        ..Table::default()
+    };
+    for (k, (cost, period, deadline)) in tasks.iter().copied().enumerate() {
+        table.records[k] = Record {
+            cost,
+            period,
+            deadline,
+            first: k as u32,
+            count: 1,
+            name: k as u32,
+            ..Record::default()
+        };
+    }
+    (table, tasks.iter().map(|(cost, _, _)| *cost).collect())
+}
+
+/// The same with priorities and thresholds.
+fn assigned(tasks: &[(u32, u32, u32)], places: &[(u32, u32)]) -> (Table, Vec<u32>) {
+    let (mut table, own) = unassigned(tasks);
+    for (record, (priority, threshold)) in table.records.iter_mut().zip(places) {
+        (record.priority, record.threshold) = (*priority, *threshold);
+    }
+    (table, own)
+}
+
+/// The two jobs of the bench figures in their passing assignment, B in regions of 3 and 1.
+fn two_jobs() -> (Table, Vec<u32>) {
+    let (mut table, _) = assigned(&[A, B], &[(1, 1), (2, 2)]);
+    table.records[1].count = 2;
+    table.records[1].name = 64;
+    (table, vec![2, 3, 1])
+}
+
+/// Eight tasks, all that a table holds.
+fn eight_jobs() -> (Table, Vec<u32>) {
+    let tasks: Vec<(u32, u32, u32)> = (1..=8).map(|k| (k, 40 * k, 40 * k)).collect();
+    let places: Vec<(u32, u32)> = (1..=8).map(|k: u32| (k, k.div_ceil(2))).collect();
+    assigned(&tasks, &places)
+}
+
+/// The two jobs after a change of the table.
+fn changed(change: impl Fn(&mut Table)) -> Table {
+    let (mut table, _) = two_jobs();
+    change(&mut table);
+    table
+}
+
+/// The two jobs after a change of one record.
+fn record_changed(k: usize, change: impl Fn(&mut Record)) -> Table {
+    changed(|table| change(&mut table.records[k]))
+}
+
+fn clear(table: &mut Table) {
+    for record in &mut table.records {
+        (record.priority, record.threshold) = (0, 0);
+    }
+}
+
+/// The table with a record's regions in the catalogue, from this word on.
+fn lent(table: &Table, k: usize, first: u32) -> Table {
+    let mut table = *table;
+    (table.records[k].source, table.records[k].first) = (Source::Catalogue, first);
+    table
+}
+
+fn file_of(table: &Table, own: &[u32], catalogue: &[u32]) -> Vec<u8> {
+    let mut out = [0; 512];
+    let length = file::write(PLATE, table, own, catalogue, &mut out).expect("a file");
+    out[..length].to_vec()
+}
+
+fn two_jobs_file() -> Vec<u8> {
+    let (table, own) = two_jobs();
+    file_of(&table, &own, &[])
+}
+
+/// Puts a value into the field of this many bits that starts at this bit of the file.
+fn put(file: &mut [u8], at: usize, width: usize, value: u32) {
+    for place in 0..width {
+        let bit = (value >> (width - 1 - place) & 1) as u8;
+        let at = at + place;
+        file[at / 8] = file[at / 8] & !(0x80 >> (at % 8)) | bit << (7 - at % 8);
+    }
+}
+
+/// The two jobs' file with one field changed, sealed anew.
+fn field_changed(at: usize, width: usize, value: u32) -> Vec<u8> {
+    let mut file = two_jobs_file();
+    put(&mut file, at, width, value);
+    seal_again(&mut file);
+    file
+}
+
+/// What a field of the two jobs' file is changed to, and where it starts and how wide it is, in
+/// the order of the numbers that turn the file away.
+const FIELDS: [(&str, usize, usize, u32); 30] = [
+    ("edition 0", 0, 4, 0),
+    ("edition 2", 0, 4, 2),
+    ("the file is another cabinet's", 8, 24, 70_003),
+    ("the file is another line's", 32, 16, 13),
+    ("n is 0", 48, 8, 0),
+    ("n is 9", 48, 8, 9),
+    ("m is 101", 56, 8, 101),
+    ("the length of another n", 48, 8, 3),
+    ("the length of another m", 56, 8, 2),
+    ("a spare bit of the head", 4, 4, 1),
+    ("a spare bit of record 1", in_record(0, 90), 6, 32),
+    ("a spare bit of record 2", in_record(1, 90), 6, 1),
+    ("a filler bit behind three words", WORDS + 60, 4, 1),
+    ("cost 0", in_record(0, 0), 20, 0),
+    ("cost 1,000,001", in_record(0, 0), 20, 1_000_001),
+    ("period 0", in_record(1, 20), 20, 0),
+    ("period 1,000,001", in_record(1, 20), 20, 1_000_001),
+    ("deadline 0", in_record(1, 40), 20, 0),
+    ("deadline 1,000,001", in_record(1, 40), 20, 1_000_001),
+    ("priorities 0 and 2", in_record(0, 60), 4, 0),
+    ("priorities 2 and 2", in_record(0, 60), 4, 2),
+    ("priorities 1 and 3", in_record(1, 60), 4, 3),
+    ("a threshold of 0", in_record(1, 64), 4, 0),
+    ("a threshold too large", in_record(0, 64), 4, 2),
+    ("a region of the empty catalogue", in_record(0, 68), 1, 1),
+    ("first region behind the last", in_record(0, 69), 7, 3),
+    ("regions that end behind the last", in_record(1, 69), 7, 2),
+    ("count 0", in_record(0, 76), 7, 0),
+    ("a sum below the cost", in_record(1, 76), 7, 1),
+    ("a region word of 0", WORDS, 20, 0),
+];
+
+/// Where the region words of two jobs start.
+const WORDS: usize = in_record(2, 0);
+
+/// The bit at which a field of record k + 1 starts.
+const fn in_record(k: usize, field: usize) -> usize {
+    64 + 96 * k + field
+}
+
+/// Files that reading turns away, for the calls that read a file.
+fn turned_away_files() -> Vec<(&'static str, Plate, Vec<u8>)> {
+    let mut list = Vec::new();
+    let mut add = |what, file| list.push((what, PLATE, file));
+    let file = two_jobs_file();
+    add("no byte at all", vec![]);
+    add("21 bytes", file[..21].to_vec());
+    add("a byte too many", [&file[..], &[0]].concat());
+    add("a byte too few", file[..file.len() - 1].to_vec());
+    add("a bit of the first cost flipped", flipped(&file, 10));
+    add("a bit of the seal flipped", flipped(&file, file.len() - 1));
+    for (what, at, width, value) in FIELDS {
+        add(what, field_changed(at, width, value));
+    }
+    let word = field_changed(WORDS + 40, 20, 1_000_001);
+    add("a region word of 1,000,001", word);
+    let other_line = field_changed(32, 16, 13);
+    add("wrong line and wrong seal", flipped(&other_line, 40));
+    let mut spare_and_cost = field_changed(in_record(0, 0), 20, 0);
+    put(&mut spare_and_cost, in_record(1, 90), 6, 1);
+    seal_again(&mut spare_and_cost);
+    add("a spare bit and a cost of 0", spare_and_cost);
+    let wide = Plate {
+        cabinet: PLATE.cabinet | 1 << 24,
+        ..PLATE
+    };
+    list.push(("a plate of more than 24 bits", wide, file));
+    list
+}
+
+/// The file with a bit of this byte flipped.
+fn flipped(file: &[u8], byte: usize) -> Vec<u8> {
+    let mut file = file.to_vec();
+    file[byte] ^= 0x10;
+    file
+}
+
+// ---- the calls
+
+impl Stream {
+    fn add(&mut self, kind: u8, what: &'static str, body: Vec<u8>) {
+        self.0.push(Case { kind, what, body });
+    }
+
+    fn read(&mut self, what: &'static str, room: u32, lent: &[u32], file: &[u8]) {
+        self.add(1, what, read_body(PLATE, room, lent, file));
+    }
+
+    fn record(&mut self, what: &'static str, number: u32, lent: &[u32], file: &[u8]) {
+        self.add(9, what, read_body(PLATE, number, lent, file));
+    }
+
+    /// Writes for the plate of the two jobs, with an empty catalogue.
+    fn write(&mut self, what: &'static str, room: u32, table: &Table, own: &[u32]) {
+        self.add(2, what, write_body(PLATE, room, table, own, &[]));
+    }
+
+    /// Response times, tolerances or lengths.
+    fn analysis(&mut self, kind: u8, what: &'static str, table: &Table) {
+        self.add(kind, what, table_body(table));
+    }
+
+    fn check(&mut self, what: &'static str, table: &Table, own: &[u32], lent: &[u32]) {
+        let mut body = table_body(table);
+        put_words(&mut body, own);
+        put_words(&mut body, lent);
+        self.add(6, what, body);
+    }
+
+    fn first_row(&mut self, what: &'static str, room: u32, table: &Table) {
+        self.add(7, what, row_body(room, table));
+    }
+
+    fn next_row(&mut self, what: &'static str, room: u32, table: &Table, row: &[u8]) {
+        let mut body = row_body(room, table);
+        put_bytes(&mut body, row);
+        self.add(8, what, body);
+    }
+
+    fn regions(&mut self, what: &'static str, k: u32, table: &Table, own: &[u32], lent: &[u32]) {
+        let mut body = row_body(k, table);
+        put_words(&mut body, own);
+        put_words(&mut body, lent);
+        self.add(10, what, body);
+    }
+
+    fn name(&mut self, what: &'static str, number: u32, cabinet: &[u8], house: &[u8]) {
+        self.add(11, what, name_body(number, cabinet, house));
+    }
+}
+
+fn read_body(plate: Plate, two: u32, catalogue: &[u32], file: &[u8]) -> Vec<u8> {
+    let mut body = Vec::new();
+    put_plate(&mut body, plate);
+    put_two(&mut body, two);
+    put_words(&mut body, catalogue);
+    put_bytes(&mut body, file);
+    body
+}
+
+fn write_body(plate: Plate, room: u32, table: &Table, own: &[u32], catalogue: &[u32]) -> Vec<u8> {
+    let mut body = Vec::new();
+    put_plate(&mut body, plate);
+    put_two(&mut body, room);
+    put_table(&mut body, table);
+    put_words(&mut body, own);
+    put_words(&mut body, catalogue);
+    body
+}
+
+fn table_body(table: &Table) -> Vec<u8> {
+    let mut body = Vec::new();
+    put_table(&mut body, table);
+    body
+}
+
+fn row_body(two: u32, table: &Table) -> Vec<u8> {
+    let mut body = Vec::new();
+    put_two(&mut body, two);
+    put_table(&mut body, table);
+    body
+}
+
+fn name_body(number: u32, cabinet: &[u8], house: &[u8]) -> Vec<u8> {
+    let mut body = Vec::new();
+    put_two(&mut body, number);
+    put_bytes(&mut body, cabinet);
+    put_bytes(&mut body, house);
+    body
+}
+
+fn reading(stream: &mut Stream) {
+    let file = two_jobs_file();
+    stream.read("room for just its words", 3, &[], &file);
+    stream.read("room for more", 5, &[], &file);
+    stream.read("room for one word less", 2, &[], &file);
+    stream.read("no room", 0, &[], &file);
+    stream.read("a line longer than a buffer", 6100, &[], &file);
+    let (table, own) = two_jobs();
+    let cleared = file_of(&changed(clear), &own, &[]);
+    stream.read("unassigned", 3, &[], &cleared);
+    let (one, word) = unassigned(&[(1, 1, 1)]);
+    stream.read("one task, one word", 1, &[], &file_of(&one, &word, &[]));
+    let shortest = file_of(&lent(&one, 0, 0), &[], &[1]);
+    stream.read("the shortest file: no word", 0, &[1], &shortest);
+    stream.read("the same, another catalogue", 0, &[2], &shortest);
+    let (eight, mut words) = eight_jobs();
+    stream.read("eight tasks", 8, &[], &file_of(&eight, &words, &[]));
+    words.resize(100, 1_000_000);
+    let longest = file_of(&eight, &words, &[]);
+    stream.read("the longest file: 100 words", 100, &[], &longest);
+    stream.read("the same, room for 99", 99, &[], &longest);
+    let (largest, words) = unassigned(&[(1_000_000, 1_000_000, 1_000_000)]);
+    stream.read(
+        "the largest numbers",
+        1,
+        &[],
+        &file_of(&largest, &words, &[]),
+    );
+    let of_catalogue = file_of(&lent(&table, 0, 1), &own, &[0, 2]);
+    stream.read(
+        "a catalogue's 0 that no record names",
+        3,
+        &[0, 2],
+        &of_catalogue,
+    );
+    stream.read("a catalogue too short", 3, &[2], &of_catalogue);
+    for (what, plate, file) in turned_away_files() {
+        stream.add(1, what, read_body(plate, 3, &[], &file));
+    }
+}
+
+/// A change of one record of the two jobs, by its place.
+type Change = (&'static str, usize, fn(&mut Record));
+
+const OUT_OF_RANGE: [Change; 7] = [
+    ("cost 0", 0, |record| record.cost = 0),
+    ("cost 1,000,001", 1, |record| record.cost = 1_000_001),
+    ("period 0", 0, |record| record.period = 0),
+    ("period 1,000,001", 1, |record| record.period = 1_000_001),
+    ("deadline 0", 0, |record| record.deadline = 0),
+    ("deadline 1,000,001", 1, |record| {
+        record.deadline = 1_000_001
+    }),
+    ("name number 128", 1, |record| record.name = 128),
+];
+
+const BAD_ASSIGNMENTS: [Change; 6] = [
+    ("a priority of 0", 0, |record| record.priority = 0),
+    ("priorities 2 and 2", 0, |record| record.priority = 2),
+    ("priorities 1 and 3", 1, |record| record.priority = 3),
+    ("a priority of 2^32 - 1", 1, |record| {
+        record.priority = u32::MAX
+    }),
+    ("a threshold of 0", 1, |record| record.threshold = 0),
+    ("a threshold too large", 0, |record| record.threshold = 2),
+];
+
+const BAD_REGIONS: [Change; 7] = [
+    ("count 0", 0, |record| record.count = 0),
+    ("count 2^32 - 1", 0, |record| record.count = u32::MAX),
+    ("first region behind the last", 0, |record| record.first = 3),
+    ("first region 2^32 - 1", 0, |record| record.first = u32::MAX),
+    ("regions that end behind the last", 1, |record| {
+        record.first = 2
+    }),
+    ("a sum above the cost", 0, |record| record.count = 2),
+    ("a region of the empty catalogue", 0, |record| {
+        record.source = Source::Catalogue
+    }),
+];
+
+/// The two jobs after each of these changes.
+fn tables(changes: &[Change]) -> Vec<(&'static str, Table)> {
+    let table = |change: &Change| (change.0, record_changed(change.1, change.2));
+    changes.iter().map(table).collect()
+}
+
+/// Turned away by 5 for n, and by 9.
+fn out_of_range_tables() -> Vec<(&'static str, Table)> {
+    let mut list = tables(&OUT_OF_RANGE);
+    list.push(("n is 0", changed(|table| table.n = 0)));
+    list.push(("n is 9", changed(|table| table.n = 9)));
+    list.push(("n is 255", changed(|table| table.n = 255)));
+    list
+}
+
+/// Turned away by 10.
+fn bad_assignments() -> Vec<(&'static str, Table)> {
+    let mut list = tables(&BAD_ASSIGNMENTS);
+    let one_left = changed(|table| {
+        clear(table);
+        table.records[1].threshold = 1;
+    });
+    list.push(("all zero but one threshold", one_left));
+    list
+}
+
+/// Turned away by 5 for n, 9, 10 and 11, with the two jobs' words.
+fn turned_away_tables() -> Vec<(&'static str, Table)> {
+    let mut list = out_of_range_tables();
+    list.extend(bad_assignments());
+    list.extend(tables(&BAD_REGIONS));
+    list
+}
+
+fn writing(stream: &mut Stream) {
+    let (table, own) = two_jobs();
+    stream.write("room for just the file", 42, &table, &own);
+    stream.write("room for more", 45, &table, &own);
+    stream.write("room for one byte less", 41, &table, &own);
+    stream.write("no room", 0, &table, &own);
+    stream.write("unassigned", 42, &changed(clear), &own);
+    let (one, word) = unassigned(&[(1, 1, 1)]);
+    stream.write("one task", 25, &one, &word);
+    let (eight, mut words) = eight_jobs();
+    words.resize(100, 1_000_000);
+    stream.write("the longest file", 356, &eight, &words);
+    stream.write("101 words", 400, &eight, &[1; 101]);
+    let past = record_changed(2, |record| record.cost = u32::MAX);
+    stream.write("records past n are not looked at", 42, &past, &own);
+    let zero = [2, 3, 1, 0];
+    stream.write("an own word of 0 that no record names", 50, &table, &zero);
+    stream.write(
+        "an own word of 1,000,001",
+        50,
+        &table,
+        &[2, 3, 1, 1_000_001],
+    );
+    for (what, table) in turned_away_tables() {
+        stream.write(what, 42, &table, &own);
+    }
+    let both = changed(|table| {
+        table.records[0].cost = 0;
+        table.records[1].priority = 9;
+    });
+    stream.write("a cost of 0 and a bad assignment", 42, &both, &own);
+    let from_catalogue = lent(&table, 0, 1);
+    let named = write_body(PLATE, 42, &from_catalogue, &own, &[0, 2]);
+    stream.add(2, "a catalogue's 0 that no record names", named);
+    let short = write_body(PLATE, 42, &from_catalogue, &own, &[2]);
+    stream.add(2, "a catalogue too short", short);
+    for (what, cabinet) in [("24 bits", MOST_CABINET), ("25 bits", MOST_CABINET + 1)] {
+        let line = u16::MAX;
+        let plate = Plate { cabinet, line };
+        stream.add(2, what, write_body(plate, 42, &table, &own, &[]));
+    }
+}
+
+/// Document 01, "Bench figures", as far as response times go, and what turns the call away.
+fn response_times(stream: &mut Stream) {
+    let most = 1_000_000;
+    stream.analysis(3, "A (2,5,5), B (4,10,10), 1 2", &two_jobs().0);
+    let tight = assigned(&[A, B], &[(1, 1), (2, 1)]).0;
+    stream.analysis(3, "the same, thresholds 1 1", &tight);
+    for (what, task) in [
+        ("one task (3,2,2)", (3, 2, 2)),
+        ("one task of 1,000,000", (most, most, most)),
+        ("the same, period 999,999", (most, most - 1, most)),
+    ] {
+        stream.analysis(3, what, &assigned(&[task], &[(1, 1)]).0);
+    }
+    let table_1 = [(1, 7, 7), (8, 23, 23), (10, 25, 25), (3, 33, 33)];
+    let places = [(1, 1), (2, 2), (4, 2), (3, 2)];
+    let table_1 = assigned(&table_1, &places).0;
+    stream.analysis(3, "Table 1 of source document 002", &table_1);
+    let later = assigned(&[(26, 70, 70), (62, 100, 120)], &[(1, 1), (2, 2)]).0;
+    stream.analysis(3, "a later job is the worst", &later);
+    let full = (600_000, most, most);
+    let beyond = assigned(&[full, full], &[(1, 1), (2, 2)]).0;
+    stream.analysis(3, "the second beyond", &beyond);
+    stream.analysis(3, "eight tasks", &eight_jobs().0);
+    let late = record_changed(0, |record| record.deadline = 1);
+    stream.analysis(3, "a deadline below the cost", &late);
+    stream.analysis(3, "a deadline above the period", &above_period());
+    let odd = record_changed(1, |record| record.count = 9);
+    stream.analysis(3, "regions are not looked at", &odd);
+    turned_away_analysis(stream, 3);
+}
+
+/// What every call of the analysis is turned away by: 5, 9, 10, 14.
+fn turned_away_analysis(stream: &mut Stream, kind: u8) {
+    for (what, table) in out_of_range_tables().iter().chain(&bad_assignments()) {
+        stream.analysis(kind, what, table);
+    }
+    stream.analysis(kind, "unassigned", &changed(clear));
+}
+
+fn tolerances_and_lengths(stream: &mut Stream, kind: u8) {
+    let most = 1_000_000;
+    stream.analysis(kind, "A (2,5,5), B (4,10,10), order A B", &two_jobs().0);
+    let other = assigned(&[A, B], &[(2, 2), (1, 1)]).0;
+    stream.analysis(kind, "order B A", &other);
+    let tight = assigned(&[A, B], &[(1, 1), (2, 1)]).0;
+    stream.analysis(kind, "thresholds play no part", &tight);
+    for (what, deadline) in [("A (2,5,2)", 2), ("A (2,5,1)", 1)] {
+        let table = changed(|table| table.records[0].deadline = deadline);
+        stream.analysis(kind, what, &table);
+    }
+    let three = [(1, 10, 10), (9, 35, 35), (52, 105, 105)];
+    let three = assigned(&three, &[(1, 1), (2, 2), (3, 3)]).0;
+    stream.analysis(kind, "the tasks of source document 001", &three);
+    stream.analysis(kind, "both tolerances below zero", &both_below().0);
+    let far = assigned(&[(most, 1, 1), (most, most, most)], &[(1, 1), (2, 2)]).0;
+    stream.analysis(kind, "far below zero", &far);
+    stream.analysis(kind, "eight tasks", &eight_jobs().0);
+    turned_away_analysis(stream, kind);
+    stream.analysis(kind, "a deadline above its period", &above_period());
+}
+
+fn above_period() -> Table {
+    record_changed(0, |record| record.deadline = 6)
+}
+
+/// The record of lower priority is the lowest one below zero.
+fn both_below() -> (Table, Vec<u32>) {
+    assigned(&[(4, 10, 3), (2, 5, 1)], &[(2, 2), (1, 1)])
+}
+
+fn region_check(stream: &mut Stream) {
+    let (table, own) = two_jobs();
+    stream.check("regions 3 and 1 for B", &table, &own, &[]);
+    let (whole, words) = assigned(&[A, B], &[(1, 1), (2, 2)]);
+    stream.check("one region of 4 for B", &whole, &words, &[]);
+    stream.check(
+        "3 and 1 in the catalogue",
+        &lent(&table, 1, 1),
+        &[2],
+        &[0, 3, 1],
+    );
+    stream.check("4 in the catalogue", &lent(&whole, 1, 0), &[2], &[4]);
+    for (what, table) in turned_away_tables() {
+        stream.check(what, &table, &own, &[]);
+    }
+    stream.check("101 words", &table, &[1; 101], &[]);
+    let zero = [2, 3, 1, 0];
+    stream.check("an own word of 0 that no record names", &table, &zero, &[]);
+    stream.check("unassigned", &changed(clear), &own, &[]);
+    stream.check("a deadline above its period", &above_period(), &own, &[]);
+    let late = record_changed(0, |record| record.deadline = 1);
+    stream.check("A (2,5,1)", &late, &own, &[]);
+    let (below, words) = both_below();
+    stream.check("both tolerances below zero", &below, &words, &[]);
+}
+
+fn rows(stream: &mut Stream) {
+    let paper = unassigned(&[(2, 5, 6), B]).0;
+    let only = two_jobs().0;
+    let none = unassigned(&[(2, 5, 1), B]).0;
+    let most = 1_000_000;
+    stream.first_row("A (2,5,6), B (4,10,10)", 4, &paper);
+    stream.first_row("room for more", 6, &paper);
+    stream.first_row("A (2,5,5): the only row", 4, &only);
+    stream.first_row("A (2,5,1): no row", 4, &none);
+    let over = unassigned(&[(3, 2, 2)]).0;
+    stream.first_row("one task (3,2,2)", 2, &over);
+    let largest = unassigned(&[(most, most, most)]).0;
+    stream.first_row("one task of 1,000,000", 2, &largest);
+    stream.first_row("eight tasks", 16, &eight_jobs().0);
+    let ignored = &bad_assignments()[0].1;
+    stream.first_row("the table's assignment is ignored", 4, ignored);
+    stream.first_row("room for one number less", 3, &paper);
+    stream.first_row("no room, and no row", 0, &none);
+    for (what, table) in out_of_range_tables() {
+        stream.first_row(what, 4, &table);
+    }
+    stream.next_row("after the first", 4, &paper, &[1, 2, 1, 1]);
+    stream.next_row("to another order", 4, &paper, &[1, 2, 1, 2]);
+    stream.next_row("after the third", 4, &paper, &[2, 1, 1, 1]);
+    stream.next_row("after the last", 5, &paper, &[2, 1, 2, 1]);
+    stream.next_row("from a row that fails", 5, &only, &[1, 2, 1, 1]);
+    stream.next_row("after the only row", 4, &only, &[1, 2, 1, 2]);
+    let last = [8, 7, 6, 5, 4, 3, 2, 1, 8, 7, 6, 5, 4, 3, 2, 1];
+    stream.next_row("the last row of eight", 16, &eight_jobs().0, &last);
+    stream.next_row("room for one number less", 3, &paper, &[1, 2, 1, 1]);
+    stream.next_row("the same, at the end", 3, &paper, &[2, 1, 2, 1]);
+    for (what, row) in BAD_ROWS {
+        stream.next_row(what, 4, &paper, row);
+    }
+    stream.next_row("no room and a bad row", 3, &paper, &[1, 2]);
+    for (what, table) in out_of_range_tables() {
+        stream.next_row(what, 4, &table, &[1, 2, 1, 1]);
+    }
+}
+
+const BAD_ROWS: [(&str, &[u8]); 9] = [
+    ("no number", &[]),
+    ("one number less", &[1, 2, 1]),
+    ("one number more", &[1, 2, 1, 1, 1]),
+    ("a record twice", &[1, 1, 1, 1]),
+    ("record 0", &[0, 1, 1, 1]),
+    ("record 3 of two", &[1, 3, 1, 1]),
+    ("a threshold of 0 in the row", &[1, 2, 0, 1]),
+    ("threshold 2 of priority 1", &[1, 2, 2, 1]),
+    ("threshold 3 of two", &[1, 2, 1, 3]),
+];
+
+fn records(stream: &mut Stream) {
+    let file = two_jobs_file();
+    stream.record("record 1", 1, &[], &file);
+    stream.record("record 2", 2, &[], &file);
+    stream.record("record 0", 0, &[], &file);
+    stream.record("record 3 of two", 3, &[], &file);
+    stream.record("record 65,535", 65_535, &[], &file);
+    let (eight, words) = eight_jobs();
+    let eight = file_of(&eight, &words, &[]);
+    stream.record("record 8 of eight", 8, &[], &eight);
+    let (table, own) = two_jobs();
+    let of_catalogue = file_of(&lent(&table, 0, 0), &own, &[2]);
+    stream.record("regions in the catalogue", 1, &[2], &of_catalogue);
+    stream.record("the same, another catalogue", 1, &[3], &of_catalogue);
+    for (what, plate, file) in turned_away_files() {
+        stream.add(9, what, read_body(plate, 1, &[], &file));
+    }
+    let other_line = field_changed(32, 16, 13);
+    stream.record("no such record of another line", 9, &[], &other_line);
+}
+
+fn regions(stream: &mut Stream) {
+    let (table, own) = two_jobs();
+    let nines = [9, 9, 9];
+    stream.regions("one own word", 1, &table, &own, &nines);
+    stream.regions("two own words", 2, &table, &own, &nines);
+    let from_catalogue = lent(&table, 1, 1);
+    stream.regions(
+        "two of the catalogue",
+        2,
+        &from_catalogue,
+        &nines,
+        &[0, 3, 1],
+    );
+    let mut far = lent(&table, 1, 127);
+    (far.records[1].count, far.records[1].cost) = (127, 127);
+    stream.regions("127 words from word 127 on", 2, &far, &[], &[1; 254]);
+    let other = record_changed(0, |record| record.cost = 7);
+    stream.regions("another record is bad", 2, &other, &[0, 3, 1], &[]);
+    stream.regions("record 0", 0, &table, &own, &[]);
+    stream.regions("record 3 of two", 3, &table, &own, &[]);
+    stream.regions("101 words", 1, &table, &[2; 101], &[]);
+    for n in [0, 9] {
+        let table = changed(|table| table.n = n);
+        stream.regions("n out of range", 1, &table, &own, &[]);
+    }
+    for (what, k, change) in BAD_REGIONS {
+        let table = record_changed(k, change);
+        stream.regions(what, k as u32 + 1, &table, &own, &[]);
+    }
+    let first = lent(&table, 1, 128);
+    stream.regions("first region 128", 2, &first, &[], &[2; 254]);
+    let mut count = lent(&table, 1, 0);
+    (count.records[1].count, count.records[1].cost) = (128, 128);
+    stream.regions("count 128", 2, &count, &[], &[1; 254]);
+    stream.regions("a region word of 0", 2, &table, &[2, 4, 0], &[]);
+    let large = [1_000_001, 3, 1];
+    stream.regions("a region word of 1,000,001", 1, &table, &large, &[]);
+    let bad = &tables(&BAD_REGIONS)[0].1;
+    stream.regions("no such record, and bad regions", 3, bad, &own, &[]);
+}
+
+fn names(stream: &mut Stream) {
+    let cabinet = name_list(&["gate scan", "output test", "", "sixteen letters!"]);
+    let house = name_list(&["drive talk", " lamp"]);
+    let long = name_list(&["x"; 64]);
+    stream.name("the cabinet's first", 0, &cabinet, &house);
+    stream.name("an entry of spaces", 2, &cabinet, &house);
+    stream.name("an entry without spaces", 3, &cabinet, &house);
+    stream.name("the cabinet's last", 63, &long, &house);
+    stream.name("the house's first", 64, &cabinet, &house);
+    stream.name("a space in front stays", 65, &cabinet, &house);
+    stream.name("the house's last", 127, &cabinet, &long);
+    stream.name("behind the cabinet's list", 4, &cabinet, &house);
+    stream.name("behind the house's list", 66, &cabinet, &house);
+    stream.name("an entry cut short", 3, &cabinet[..63], &house);
+    stream.name("an empty list", 0, &[], &house);
+    stream.name("name number 128", 128, &long, &long);
+    stream.name("name number 65,535", 65_535, &long, &long);
+}
+
+fn name_list(names: &[&str]) -> Vec<u8> {
+    let entries: Vec<String> = names.iter().map(|name| format!("{name:16}")).collect();
+    entries.concat().into_bytes()
+}
+
+// ---- the table of refusals
+
+/// docs/REFUSALS.md: which line of the stream reaches which number of which call.
+pub fn refusals() -> String {
+    let cases = all();
+    let mut text = String::from(
+        "# Which case reaches which refusal\n\n\
+         The lines of `crates/ask/stdin`, a stream of requests, and of `crates/ask/stdout`, its \
+         answers: line k answers request k. Both and this page are written by the second program \
+         (`second cases`, `second ask`, `second refusals`); `tools/make-cases` makes them anew. \
+         Document 01, \"Numbers a turned-away call returns\", lists the numbers that each call asks.\n\n\
+         ## By call and number\n\n\
+         | call | number | lines |\n|---|---|---|\n",
+    );
+    for (place, (call, numbers)) in CALLS.iter().enumerate() {
+        for number in *numbers {
+            let lines = lines_of(&cases, place as u8 + 1, Some(*number));
+            let _ = writeln!(text, "| {call} | {number} | {lines} |");
+        }
+        let lines = lines_of(&cases, place as u8 + 1, None);
+        let _ = writeln!(text, "| {call} | not turned away | {lines} |");
+    }
+    text += "\n## By line\n\n| line | call | answer | case |\n|---|---|---|---|\n";
+    for (place, case) in cases.iter().enumerate() {
+        let call = CALLS[case.kind as usize - 1].0;
+        let answer = shortened(&case.answer());
+        let _ = writeln!(
+            text,
+            "| {} | {call} | `{answer}` | {} |",
+            place + 1,
+            case.what
+        );
+    }
+    let _ = writeln!(text, "| {} | | `bad request` | kind 12 |", cases.len() + 1);
+    text
+}
+
+/// The lines of a kind that this number turns away, or that nothing does.
+fn lines_of(cases: &[Case], kind: u8, number: Option<u8>) -> String {
+    let lines: Vec<String> = cases
+        .iter()
+        .enumerate()
+        .filter(|(_, case)| case.kind == kind && case.refusal() == number)
+        .map(|(place, _)| (place + 1).to_string())
+        .collect();
+    lines.join(" ")
+}
+
+/// The answer without the memory that was lent, and cut where it is long.
+fn shortened(answer: &str) -> String {
+    let said = answer.split(" out").next().unwrap_or(answer);
+    match said.char_indices().nth(40) {
+        Some((end, _)) => format!("{}..", &said[..end]),
+        None => said.to_string(),
+    }
+}
+
+// ---- cases in a file each
+
+/// Writes FOLDER/ask/NAME.in and FOLDER/list/NAME.in.
+pub fn small(folder: &str) -> io::Result<()> {
+    for (program, inputs) in [("ask", ask_streams()), ("list", list_inputs())] {
+        std::fs::create_dir_all(format!("{folder}/{program}"))?;
+        for (name, input) in inputs {
+            let name = name.replace([' ', ',', '\''], "-");
+            std::fs::write(format!("{folder}/{program}/{name}.in"), input)?;
+        }
+    }
+    Ok(())
+}
+
+/// Streams that end in a bad request, or before the first.
+fn ask_streams() -> Vec<(String, Vec<u8>)> {
+    let good = request(3, &table_body(&two_jobs().0));
+    let left_over = [table_body(&two_jobs().0), vec![0]].concat();
+    let mut count = name_body(0, b"gate", &[]);
+    *count.last_mut().expect("a count") = 1;
+    let longest = name_body(0, &[b'x'; 4090], &[]);
+    let too_long = name_body(0, &[b'x'; 4091], &[]);
+    let mut list = vec![
+        ("empty".to_string(), vec![]),
+        ("one".to_string(), good.clone()),
+    ];
+    for (name, tail) in [
+        ("kind 0", vec![0, 0, 0]),
+        ("kind 12", vec![12, 0, 0]),
+        ("kind 255", vec![255, 0, 0]),
+        ("body empty", vec![3, 0, 0]),
+        ("head of 1", vec![3]),
+        ("head of 2", vec![3, 1]),
+        ("body cut", good[..good.len() - 1].to_vec()),
+        ("bytes left over", request(3, &left_over)),
+        ("count too large", request(11, &count)),
+        ("body longest", request(11, &longest)),
+        ("body too long", request(11, &too_long)),
+        ("bad before good", [&[0, 0, 0][..], &good].concat()),
+    ] {
+        list.push((name.to_string(), [&good[..], &tail].concat()));
+    }
+    list
+}
+
+/// Plates and files for the listing's program.
+fn list_inputs() -> Vec<(String, Vec<u8>)> {
+    let input = |tasks: &[(u32, u32, u32)]| {
+        let (table, own) = unassigned(tasks);
+        plated(&file_of(&table, &own, &[]))
+    };
+    let most = 1_000_000;
+    let paper = input(&[(2, 5, 6), B]);
+    let mut list = Vec::new();
+    for (name, input) in [
+        ("paper", paper.clone()),
+        ("only row", input(&[A, B])),
+        ("no row", input(&[(2, 5, 1), B])),
+        ("one task", input(&[(3, 5, 4)])),
+        ("one task beyond", input(&[(3, 2, 2)])),
+        ("one task largest", input(&[(most, most, most)])),
+        (
+            "three tasks",
+            input(&[(1, 10, 10), (9, 35, 35), (52, 105, 105)]),
+        ),
+        (
+            "four tasks",
+            input(&[(1, 7, 7), (8, 23, 23), (10, 25, 25), (3, 33, 33)]),
+        ),
+        (
+            "four tasks with all rows",
+            input(&[(1, 40, 40), (2, 40, 40), (3, 40, 40), (4, 40, 40)]),
+        ),
+        ("deadline above period", input(&[(3, 6, 20), (4, 9, 20)])),
+        ("cost above deadline", input(&[(3, 10, 2), (1, 10, 10)])),
+        ("assigned", plated(&two_jobs_file())),
+        ("empty", vec![]),
+        ("four bytes", paper[..4].to_vec()),
+        ("plate alone", paper[..5].to_vec()),
+        (
+            "just 512",
+            [&paper[..], &vec![0; 512 - paper.len()]].concat(),
+        ),
+        ("longer than 512", [&paper[..], &[0; 600]].concat()),
+    ] {
+        list.push((name.to_string(), input));
+    }
+    for (what, plate, file) in turned_away_files() {
+        if plate == PLATE {
+            list.push((format!("refused {what}"), plated(&file)));
+        }
+    }
+    list
+}
+
+/// The file behind five plate bytes.
+fn plated(file: &[u8]) -> Vec<u8> {
+    let cabinet = PLATE.cabinet.to_be_bytes();
+    [&cabinet[1..], &PLATE.line.to_be_bytes(), file].concat()
+}
+
+/// Each call is turned away by every number that it asks, and by no other.
+#[test]
+fn every_refusal_is_reached() {
+    let cases = all();
+    for (place, (call, numbers)) in CALLS.iter().enumerate() {
+        for number in 1..=17 {
+            let lines = lines_of(&cases, place as u8 + 1, Some(number));
+            assert_eq!(
+                lines.is_empty(),
+                !numbers.contains(&number),
+                "{call} {number}"
+            );
+        }
+        assert!(
+            !lines_of(&cases, place as u8 + 1, None).is_empty(),
+            "{call}"
+        );
+    }
+}
