@@ -9,7 +9,7 @@ ghost use Rattle.paper.specs.Numbers.{mostTicks, horizon};
 ghost use Rattle.climb.specs.Work.{timesBy, Ready, work, side, solution, Rises};
 
 // One number for each task.
-pub type Column = [u64; paper::MOST_TASKS];
+pub type Numbers = [u64; paper::MOST_TASKS];
 
 // x = base + work(limit, x + edge) - off. L, S and F are the least x of such an equation.
 pub struct Equation {
@@ -35,7 +35,7 @@ fn part(x: u64, limit: u64, c: u64, t: u64, p: u64) -> u64
     if p < limit { arrived(x, t) * c } else { 0 }
 }
 
-pub fn work(n: usize, c: &Column, t: &Column, p: &Column, limit: u64, x: u64) -> u64
+pub fn work(n: usize, c: &Numbers, t: &Numbers, p: &Numbers, limit: u64, x: u64) -> u64
     requires { ⌜ Ready n (now c) (now t) (now p) × (x ≤ horizon + 1) ⌝ }
     ensures { λ r. ⌜ r ≡ work (timesBy n (now (c .entry)) (now (t .entry))) (now (p .entry)) limit x ⌝ }
 {
@@ -49,7 +49,7 @@ pub fn work(n: usize, c: &Column, t: &Column, p: &Column, limit: u64, x: u64) ->
 }
 
 // The right side of an equation, at x.
-fn side(n: usize, c: &Column, t: &Column, p: &Column, e: Equation, x: u64) -> u64
+fn side(n: usize, c: &Numbers, t: &Numbers, p: &Numbers, e: Equation, x: u64) -> u64
     requires { ⌜ Ready n (now c) (now t) (now p) × (x ≤ horizon) × Rises (timesBy n (now c) (now t)) (now p) e x ⌝ }
     ensures { λ r. ⌜ r ≡ side (timesBy n (now (c .entry)) (now (t .entry))) (now (p .entry)) e x ⌝ }
 {
@@ -57,7 +57,7 @@ fn side(n: usize, c: &Column, t: &Column, p: &Column, e: Equation, x: u64) -> u6
 }
 
 // The least x from `from` to the horizon that solves the equation.
-pub fn solve(n: usize, c: &Column, t: &Column, p: &Column, e: Equation, from: u64) -> Time
+pub fn solve(n: usize, c: &Numbers, t: &Numbers, p: &Numbers, e: Equation, from: u64) -> Time
     requires { ⌜ Ready n (now c) (now t) (now p) × Rises (timesBy n (now c) (now t)) (now p) e from ⌝ }
     ensures { λ r. ⌜ r ≡ solution (timesBy n (now (c .entry)) (now (t .entry))) (now (p .entry)) e from ⌝ }
 {

@@ -1,6 +1,6 @@
 // Response times and the pass test, over columns of numbers.
-use climb::Column;
 use climb::Equation;
+use climb::Numbers;
 use paper::Outcome;
 use paper::Response;
 use paper::Table;
@@ -46,7 +46,7 @@ fn block_part(own: u64, c: u64, p: u64, h: u64) -> u64
     if (h <= own) & (own < p) { c } else { 0 }
 }
 
-pub fn blocking(n: usize, c: &Column, p: &Column, h: &Column, i: usize) -> u64
+pub fn blocking(n: usize, c: &Numbers, p: &Numbers, h: &Numbers, i: usize) -> u64
     requires { ⌜ (i < n) × (n ≤ mostTasks) ⌝ }
     ensures { λ r. ⌜ r ≡ blocking (tasksBy n (now (c .entry)) [] []) (assignedBy (now (p .entry)) (now (h .entry))) i ⌝ }
 {
@@ -60,7 +60,7 @@ pub fn blocking(n: usize, c: &Column, p: &Column, h: &Column, i: usize) -> u64
     most
 }
 
-fn stand_of(n: usize, c: &Column, p: &Column, h: &Column, i: usize) -> Stand
+fn stand_of(n: usize, c: &Numbers, p: &Numbers, h: &Numbers, i: usize) -> Stand
     requires { ⌜ (i < n) × (n ≤ mostTasks) ⌝ }
     ensures { λ r. ⌜ r ≡ standOf n (now (c .entry)) (now (p .entry)) (now (h .entry)) i ⌝ }
 {
@@ -81,7 +81,7 @@ fn edge(b: u64) -> u64
 }
 
 // L
-pub fn level(n: usize, c: &Column, t: &Column, p: &Column, i: usize, s: Stand) -> Time
+pub fn level(n: usize, c: &Numbers, t: &Numbers, p: &Numbers, i: usize, s: Stand) -> Time
     requires { ⌜ Ready n (now c) (now t) (now p) × (i < n) × (s .b ≤ mostTicks) × (s .p ≡ getD (now p) i 0) ⌝ }
     ensures { λ r. ⌜ r ≡ levelOf (timesBy n (now (c .entry)) (now (t .entry))) (standBy (now (p .entry)) s) ⌝ }
 {
@@ -98,9 +98,9 @@ pub fn level(n: usize, c: &Column, t: &Column, p: &Column, i: usize, s: Stand) -
 // S of job k, which is known to be at least `from`.
 pub fn start(
     n: usize,
-    c: &Column,
-    t: &Column,
-    p: &Column,
+    c: &Numbers,
+    t: &Numbers,
+    p: &Numbers,
     i: usize,
     s: Stand,
     k: u64,
@@ -123,7 +123,7 @@ pub fn start(
 }
 
 // F of a job that starts at `begun`.
-pub fn finish(n: usize, c: &Column, t: &Column, p: &Column, i: usize, s: Stand, begun: u64) -> Time
+pub fn finish(n: usize, c: &Numbers, t: &Numbers, p: &Numbers, i: usize, s: Stand, begun: u64) -> Time
     requires { ⌜ Ready n (now c) (now t) (now p) × (i < n) × (begun ≤ horizon) ⌝ }
     ensures { λ r. ⌜ r ≡ finishOf (timesBy n (now (c .entry)) (now (t .entry))) (standBy (now (p .entry)) s) i begun ⌝ }
 {
@@ -142,9 +142,9 @@ pub fn finish(n: usize, c: &Column, t: &Column, p: &Column, i: usize, s: Stand, 
 
 pub fn job(
     n: usize,
-    c: &Column,
-    t: &Column,
-    p: &Column,
+    c: &Numbers,
+    t: &Numbers,
+    p: &Numbers,
     i: usize,
     s: Stand,
     k: u64,
@@ -173,7 +173,7 @@ fn less(f: u64, r: u64) -> u64
 }
 
 // The largest F - k T of the jobs below `jobs`.
-pub fn worst(n: usize, c: &Column, t: &Column, p: &Column, i: usize, s: Stand, jobs: u64) -> Time
+pub fn worst(n: usize, c: &Numbers, t: &Numbers, p: &Numbers, i: usize, s: Stand, jobs: u64) -> Time
     requires { ⌜ Ready n (now c) (now t) (now p) × (i < n) × (s .b ≤ mostTicks) × (jobs ≤ horizon) ⌝ }
     ensures { λ r. ⌜ r ≡ worst (timesBy n (now (c .entry)) (now (t .entry))) (standBy (now (p .entry)) s) i jobs ⌝ }
 {
@@ -197,9 +197,9 @@ pub fn worst(n: usize, c: &Column, t: &Column, p: &Column, i: usize, s: Stand, j
 // Whether each job below `jobs` ends by its deadline: F <= k T + D. Stops at the first that doesn't.
 pub fn in_time(
     n: usize,
-    c: &Column,
-    t: &Column,
-    p: &Column,
+    c: &Numbers,
+    t: &Numbers,
+    p: &Numbers,
     i: usize,
     s: Stand,
     d: u64,
@@ -227,7 +227,7 @@ pub fn in_time(
 }
 
 // R of task i, or beyond.
-pub fn response(n: usize, c: &Column, t: &Column, p: &Column, h: &Column, i: usize) -> Time
+pub fn response(n: usize, c: &Numbers, t: &Numbers, p: &Numbers, h: &Numbers, i: usize) -> Time
     requires { ⌜ Ready n (now c) (now t) (now p) × (i < n) ⌝ }
     ensures { λ r. ⌜ r ≡ responseBy n (now (c .entry)) (now (t .entry)) (now (p .entry)) (now (h .entry)) i ⌝ }
 {
@@ -244,11 +244,11 @@ pub fn response(n: usize, c: &Column, t: &Column, p: &Column, h: &Column, i: usi
 // R of task i is at most its deadline.
 fn task_passes(
     n: usize,
-    c: &Column,
-    t: &Column,
-    d: &Column,
-    p: &Column,
-    h: &Column,
+    c: &Numbers,
+    t: &Numbers,
+    d: &Numbers,
+    p: &Numbers,
+    h: &Numbers,
     i: usize,
 ) -> bool
     requires { ⌜ Fair n (now c) (now t) (now d) (now p) (now h) × (i < n) ⌝ }
@@ -266,7 +266,7 @@ fn task_passes(
 }
 
 // Every response time exists and is at most its deadline. Stops at the first task that fails.
-pub fn passes(n: usize, c: &Column, t: &Column, d: &Column, p: &Column, h: &Column) -> bool
+pub fn passes(n: usize, c: &Numbers, t: &Numbers, d: &Numbers, p: &Numbers, h: &Numbers) -> bool
     requires { ⌜ Fair n (now c) (now t) (now d) (now p) (now h) ⌝ }
     ensures { λ r. ⌜ r ≡ passes (tasksBy n (now (c .entry)) (now (t .entry)) (now (d .entry))) (assignedBy (now (p .entry)) (now (h .entry))) ⌝ }
 {
@@ -290,10 +290,10 @@ fn no_times() -> [Response; paper::MOST_TASKS]
 // R of each of the n tasks, in front.
 fn all_responses(
     n: usize,
-    c: &Column,
-    t: &Column,
-    p: &Column,
-    h: &Column,
+    c: &Numbers,
+    t: &Numbers,
+    p: &Numbers,
+    h: &Numbers,
 ) -> [Response; paper::MOST_TASKS]
     requires { ⌜ Ready n (now c) (now t) (now p) ⌝ }
     ensures { λ r. ⌜ r ≡ eight n (answerBy n (now (c .entry)) (now (t .entry)) (now (p .entry)) (now (h .entry))) noTime ⌝ }
