@@ -10,6 +10,8 @@ mod bits;
 mod checks;
 #[path = "../second/file.rs"]
 mod file;
+#[path = "../second/generate.rs"]
+mod generate;
 #[path = "../second/lengths.rs"]
 mod lengths;
 #[path = "../second/random.rs"]
@@ -246,22 +248,8 @@ fn random_table(random: &mut Random, n: usize) -> Table {
 }
 
 fn table_bytes(table: &Table) -> Vec<u8> {
-    let mut bytes = vec![table.n];
-    for r in &table.records {
-        for word in [
-            r.cost,
-            r.period,
-            r.deadline,
-            r.priority,
-            r.threshold,
-            r.source.bit(),
-            r.first,
-            r.count,
-            r.name,
-        ] {
-            bytes.extend(word.to_be_bytes());
-        }
-    }
+    let mut bytes = Vec::new();
+    generate::put_table(&mut bytes, table);
     bytes
 }
 
