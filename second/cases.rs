@@ -821,9 +821,13 @@ fn shortened(answer: &str) -> String {
 
 // ---- cases in a file each
 
-/// Writes FOLDER/ask/NAME.in and FOLDER/list/NAME.in.
+/// Writes FOLDER/PROGRAM/NAME.in for each program.
 pub fn small(folder: &str) -> io::Result<()> {
-    for (program, inputs) in [("ask", ask_streams()), ("list", list_inputs())] {
+    for (program, inputs) in [
+        ("ask", ask_streams()),
+        ("list", list_inputs()),
+        ("show", show_inputs()),
+    ] {
         std::fs::create_dir_all(format!("{folder}/{program}"))?;
         for (name, input) in inputs {
             let name = name.replace([' ', ',', '\''], "-");
@@ -910,6 +914,43 @@ fn list_inputs() -> Vec<(String, Vec<u8>)> {
         if plate == PLATE {
             list.push((format!("refused {what}"), plated(&file)));
         }
+    }
+    list
+}
+
+/// Plates and files for the program that shows a cabinet. What it is to print of each was written
+/// by hand, from the answers of `ask`.
+fn show_inputs() -> Vec<(String, Vec<u8>)> {
+    let input = |(table, own): (Table, Vec<u32>)| plated(&file_of(&table, &own, &[]));
+    let most = 1_000_000;
+    let order = [(1, 1), (2, 2)];
+    let full = (600_000, most, most);
+    let mut list = Vec::new();
+    for (name, input) in [
+        ("unassigned", input(unassigned(&[(2, 5, 6), B]))),
+        ("all well", plated(&two_jobs_file())),
+        ("region too long", input(assigned(&[A, B], &order))),
+        (
+            "deadline above period",
+            input(assigned(&[(2, 5, 6), B], &order)),
+        ),
+        (
+            "tolerance below zero",
+            input(assigned(&[(2, 5, 1), B], &order)),
+        ),
+        (
+            "late and too long",
+            input(assigned(&[A, B], &[(1, 1), (2, 1)])),
+        ),
+        ("beyond", input(assigned(&[full, full], &order))),
+        ("largest", input(assigned(&[(most, most, most)], &[(1, 1)]))),
+        ("eight jobs", input(eight_jobs())),
+        ("another line", plated(&field_changed(32, 16, 13))),
+        ("damaged", plated(&flipped(&two_jobs_file(), 10))),
+        ("plate alone", plated(&[])),
+        ("four bytes", plated(&[])[..4].to_vec()),
+    ] {
+        list.push((name.to_string(), input));
     }
     list
 }

@@ -1,10 +1,5 @@
 // Answers a stream of requests from standard input (docs/ASK.md): every public call of the core, and on one line each
 // answer with the whole of the memory that was lent.
-mod files;
-mod handing;
-mod rows;
-mod times;
-
 ghost use Prim.Native.Nat.{_≤_};
 ghost use lib.ListN.{length};
 
@@ -13,7 +8,7 @@ const MOST_REQUESTS: u64 = 18446744073709551615;
 
 const LONGEST_BODY: usize = 4096;
 
-// The lines of a bad request, after which the program ends.
+// The line of a bad request, after which the program ends.
 fn bad(buf: &mut [u8]) -> bool {
     let end = say::word(buf, 0, b"bad request\n");
     text::flush(buf, end);
@@ -25,17 +20,17 @@ fn answer(buf: &mut [u8], kind: u8, body: &[u8], words: &mut [u32], bytes: &mut 
     ensures { λ r. ⌜ r ≤ length (now (buf .entry)) ⌝ }
 {
     match kind {
-        1 => files::read(buf, body, words),
-        2 => files::write(buf, body, bytes),
-        3 => times::response_times(buf, body),
-        4 => times::tolerances(buf, body),
-        5 => times::lengths(buf, body),
-        6 => times::region_check(buf, body),
-        7 => rows::first(buf, body, bytes),
-        8 => rows::next(buf, body, bytes),
-        9 => handing::record(buf, body),
-        10 => handing::regions(buf, body),
-        _ => handing::name(buf, body),
+        1 => ask_files::read(buf, body, words),
+        2 => ask_files::write(buf, body, bytes),
+        3 => ask_times::response_times(buf, body),
+        4 => ask_times::tolerances(buf, body),
+        5 => ask_times::lengths(buf, body),
+        6 => ask_times::region_check(buf, body),
+        7 => ask_rows::first(buf, body, bytes),
+        8 => ask_rows::next(buf, body, bytes),
+        9 => ask_parts::record(buf, body),
+        10 => ask_parts::regions(buf, body),
+        _ => ask_parts::name(buf, body),
     }
 }
 

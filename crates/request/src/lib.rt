@@ -1,4 +1,4 @@
-// The pieces of a request's body, big-endian. Past the body's end every byte reads as 0: a request is whole exactly when
+// The pieces of a request's body, and a plate, big-endian. Past the end every byte reads as 0: a request is whole exactly when
 // its last piece ends where the body does, since no piece that lies past the end can.
 ghost use Prim.Native.Nat.{_+_, _<_, _≤_, _^_};
 ghost use Rattle.fronts.specs.Front.{Front};

@@ -27,6 +27,15 @@ pub fn newline(buf: &mut [u8], at: usize) -> usize
     text::put(buf, start, b'\n')
 }
 
+// A number, with nothing in front.
+pub fn decimal(buf: &mut [u8], at: usize, x: u64) -> usize
+    requires { ⌜ at ≤ length (now buf) ⌝ }
+    ensures { λ r. ⌜ r ≤ length (now (buf .entry)) ⌝ }
+{
+    let start = text::room(buf, at, PIECE);
+    text::put_decimal(buf, start, x)
+}
+
 // A space and a number.
 pub fn number(buf: &mut [u8], at: usize, x: u64) -> usize
     requires { ⌜ at ≤ length (now buf) ⌝ }

@@ -1,6 +1,6 @@
 // Text put into a lent buffer, which a program writes out in large pieces. What doesn't fit is left out: a caller keeps
 // room for what it puts (`room`).
-ghost use Prim.Native.Nat.{_≤_, _-_};
+ghost use Prim.Native.Nat.{_≤_};
 ghost use lib.ListN.{length};
 
 // One byte at `at`. Each function here answers the place after what it put.

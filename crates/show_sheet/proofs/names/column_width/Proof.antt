@@ -1,17 +1,15 @@
--- `ask::files::put_records` stays inside the buffer, whose length no turn changes. Assumes nothing.
+-- `show_sheet::names::column_width` ends: the measure is the number of jobs that are left. Assumes nothing.
 use Prim.Native.Nat.{_≤_, _-_}
-use mathlib.Core.Path.{_≡_}
 use borrow.Author.Needs.{needs}
-use lib.ListN.{length}
 use Rattle.paper.specs.Numbers.{mostTasks}
-use Rattle.ask.proofs.files.put_records.Statement.{statement}
-use Rattle.ask.proofs.files.put_records.Tie as tie
+use Rattle.show_sheet.proofs.names.column_width.Statement.{statement}
+use Rattle.show_sheet.proofs.names.column_width.Tie as tie
 
 abbrev Inv-loop : tie.InvT-loop
-Inv-loop buf₀ at n rs end₀ k₀ buf end k = (length buf ≡ length buf₀) × (end ≤ length buf₀) × (k ≤ mostTasks)
+Inv-loop n cabinet house rs widest₀ k₀ widest k = k ≤ mostTasks
 
 abbrev μ-loop : tie.MeasureT-loop
-μ-loop buf₀ at n rs end₀ k₀ buf end k = mostTasks - k
+μ-loop n cabinet house rs widest₀ k₀ widest k = mostTasks - k
 
 loop-holds : tie.Need-loop-holds Inv-loop μ-loop
 loop-holds c = search needs
@@ -22,8 +20,11 @@ mul-r c = search needs
 array-copy-out-r : tie.Need-array-copy-out-r Inv-loop μ-loop
 array-copy-out-r c = search needs
 
-put-record-requires : tie.Need-put-record-requires Inv-loop μ-loop
-put-record-requires c κs = search needs
+width-requires : tie.Need-width-requires Inv-loop μ-loop
+width-requires c κs = search needs
+
+larger-requires : tie.Need-larger-requires Inv-loop μ-loop
+larger-requires c κs = search needs
 
 add-k : tie.Need-add-k Inv-loop μ-loop
 add-k c = search needs
@@ -34,20 +35,14 @@ loop-less c = search needs
 loop-again : tie.Need-loop-again Inv-loop μ-loop
 loop-again c = search needs
 
-same-length : tie.Need-same-length Inv-loop μ-loop
-same-length c = search needs
-
 returns : tie.Need-returns Inv-loop μ-loop
 returns c = search needs
-
-same-length-2 : tie.Need-same-length-2 Inv-loop μ-loop
-same-length-2 c = search needs
 
 returns-2 : tie.Need-returns-2 Inv-loop μ-loop
 returns-2 c = search needs
 
-pub put-records-spec : {M : Type 1} → statement M
-put-records-spec =
+pub column-width-spec : {M : Type 1} → statement M
+column-width-spec =
     tie.close
     (tie.spec
     Inv-loop
@@ -55,11 +50,10 @@ put-records-spec =
     loop-holds
     mul-r
     array-copy-out-r
-    put-record-requires
+    width-requires
+    larger-requires
     add-k
     loop-less
     loop-again
-    same-length
     returns
-    same-length-2
     returns-2)

@@ -1,0 +1,59 @@
+-- `show_sheet::column_width` ends: the measure is the number of jobs that are left. Assumes nothing.
+use Prim.Native.Nat.{_≤_, _-_}
+use borrow.Author.Needs.{needs}
+use Rattle.paper.specs.Numbers.{mostTasks}
+use Rattle.show_sheet.proofs.column_width.Statement.{statement}
+use Rattle.show_sheet.proofs.column_width.Tie as tie
+
+abbrev Inv-loop : tie.InvT-loop
+Inv-loop f n column widest₀ k₀ widest k = k ≤ mostTasks
+
+abbrev μ-loop : tie.MeasureT-loop
+μ-loop f n column widest₀ k₀ widest k = mostTasks - k
+
+heading-width-requires : tie.Need-heading-width-requires Inv-loop μ-loop
+heading-width-requires c κs = search needs
+
+loop-holds : tie.Need-loop-holds Inv-loop μ-loop
+loop-holds c = search needs
+
+cell-requires : tie.Need-cell-requires Inv-loop μ-loop
+cell-requires c κs = search needs
+
+width-of-requires : tie.Need-width-of-requires Inv-loop μ-loop
+width-of-requires c κs = search needs
+
+larger-requires : tie.Need-larger-requires Inv-loop μ-loop
+larger-requires c κs = search needs
+
+add-k : tie.Need-add-k Inv-loop μ-loop
+add-k c = search needs
+
+loop-less : tie.Need-loop-less Inv-loop μ-loop
+loop-less c = search needs
+
+loop-again : tie.Need-loop-again Inv-loop μ-loop
+loop-again c = search needs
+
+returns : tie.Need-returns Inv-loop μ-loop
+returns c = search needs
+
+returns-2 : tie.Need-returns-2 Inv-loop μ-loop
+returns-2 c = search needs
+
+pub column-width-spec : {M : Type 1} → statement M
+column-width-spec =
+    tie.close
+    (tie.spec
+    Inv-loop
+    μ-loop
+    heading-width-requires
+    loop-holds
+    cell-requires
+    width-of-requires
+    larger-requires
+    add-k
+    loop-less
+    loop-again
+    returns
+    returns-2)

@@ -1,0 +1,360 @@
+// The table of jobs, what could not be told, and the verdict.
+mod names;
+
+ghost use Prim.Native.Nat.{_≤_, _<_};
+ghost use lib.ListN.{length};
+ghost use Rattle.paper.specs.Numbers.{mostTasks};
+use cells::Cell;
+use paper::FitAnswer;
+use paper::MOST_TASKS;
+use paper::Outcome;
+use paper::Refusal;
+use paper::Table;
+use show_facts::COLUMNS;
+use show_facts::Facts;
+
+fn put_heading(buf: &mut [u8], at: usize, column: usize, width: usize) -> usize
+    requires { ⌜ at ≤ length (now buf) ⌝ }
+    ensures { λ r. ⌜ r ≤ length (now (buf .entry)) ⌝ }
+{
+    match column {
+        0 => cells::put_right(buf, at, b"cost", width),
+        1 => cells::put_right(buf, at, b"period", width),
+        2 => cells::put_right(buf, at, b"due", width),
+        3 => cells::put_right(buf, at, b"pr", width),
+        4 => cells::put_right(buf, at, b"th", width),
+        5 => cells::put_right(buf, at, b"resp", width),
+        6 => cells::put_right(buf, at, b"slack", width),
+        7 => cells::put_right(buf, at, b"tol", width),
+        8 => cells::put_right(buf, at, b"length", width),
+        _ => cells::put_right(buf, at, b"fit", width),
+    }
+}
+
+fn heading_width(column: usize) -> usize {
+    match column {
+        0 | 5 => 4,
+        1 | 8 => 6,
+        3 | 4 => 2,
+        6 => 5,
+        _ => 3,
+    }
+}
+
+// As wide as its heading and its widest cell.
+fn column_width(f: Facts, n: usize, column: usize) -> usize {
+    let mut widest = heading_width(column);
+    let mut k: usize = 0;
+    while k < MOST_TASKS && k < n {
+        widest = cells::larger(widest, cells::width_of(show_facts::cell(f, k, column)));
+        k += 1;
+    }
+    widest
+}
+
+fn widths_of(f: Facts, n: usize) -> [usize; COLUMNS] {
+    let mut widths = [0usize; COLUMNS];
+    let mut c: usize = 0;
+    while c < COLUMNS {
+        widths[c] = column_width(f, n, c);
+        c += 1;
+    }
+    widths
+}
+
+fn put_column_heading(buf: &mut [u8], at: usize, column: usize, width: usize) -> usize
+    requires { ⌜ at ≤ length (now buf) ⌝ }
+    ensures { λ r. ⌜ r ≤ length (now (buf .entry)) ⌝ }
+{
+    let start = cells::space(buf, at);
+    put_heading(buf, start, column, width)
+}
+
+fn put_column_headings(buf: &mut [u8], at: usize, widths: [usize; COLUMNS]) -> usize
+    requires { ⌜ at ≤ length (now buf) ⌝ }
+    ensures { λ r. ⌜ r ≤ length (now (buf .entry)) ⌝ }
+{
+    let mut end = at;
+    let mut c: usize = 0;
+    while c < COLUMNS {
+        end = put_column_heading(buf, end, c, widths[c]);
+        c += 1;
+    }
+    end
+}
+
+fn put_headings(buf: &mut [u8], at: usize, names: usize, widths: [usize; COLUMNS]) -> usize
+    requires { ⌜ at ≤ length (now buf) ⌝ }
+    ensures { λ r. ⌜ r ≤ length (now (buf .entry)) ⌝ }
+{
+    let first = say::word(buf, at, b"no name");
+    let named = cells::pad(buf, first, 4, names);
+    let rest = put_column_headings(buf, named, widths);
+    say::word(buf, rest, b" regions\n")
+}
+
+fn put_column(buf: &mut [u8], at: usize, cell: Cell, width: usize) -> usize
+    requires { ⌜ at ≤ length (now buf) ⌝ }
+    ensures { λ r. ⌜ r ≤ length (now (buf .entry)) ⌝ }
+{
+    let start = cells::space(buf, at);
+    cells::put_cell(buf, start, cell, width)
+}
+
+fn put_columns(buf: &mut [u8], at: usize, f: Facts, k: usize, widths: [usize; COLUMNS]) -> usize
+    requires { ⌜ at ≤ length (now buf) ⌝ }
+    requires { ⌜ k < mostTasks ⌝ }
+    ensures { λ r. ⌜ r ≤ length (now (buf .entry)) ⌝ }
+{
+    let mut end = at;
+    let mut c: usize = 0;
+    while c < COLUMNS {
+        end = put_column(buf, end, show_facts::cell(f, k, c), widths[c]);
+        c += 1;
+    }
+    end
+}
+
+fn put_plus(buf: &mut [u8], at: usize, x: u32) -> usize
+    requires { ⌜ at ≤ length (now buf) ⌝ }
+    ensures { λ r. ⌜ r ≤ length (now (buf .entry)) ⌝ }
+{
+    let plus = say::word(buf, at, b"+");
+    say::decimal(buf, plus, x as u64)
+}
+
+fn put_more(buf: &mut [u8], at: usize, words: &[u32]) -> usize
+    requires { ⌜ at ≤ length (now buf) ⌝ }
+    ensures { λ r. ⌜ r ≤ length (now (buf .entry)) ⌝ }
+{
+    let mut end = at;
+    let mut i: usize = 0;
+    while i < words.len() {
+        end = put_plus(buf, end, words[i]);
+        i += 1;
+    }
+    end
+}
+
+fn put_first(buf: &mut [u8], at: usize, x: u32) -> usize
+    requires { ⌜ at ≤ length (now buf) ⌝ }
+    ensures { λ r. ⌜ r ≤ length (now (buf .entry)) ⌝ }
+{
+    say::number(buf, at, x as u64)
+}
+
+// The lengths of a job's regions, as a sum.
+fn put_regions(buf: &mut [u8], at: usize, words: &[u32]) -> usize
+    requires { ⌜ at ≤ length (now buf) ⌝ }
+    ensures { λ r. ⌜ r ≤ length (now (buf .entry)) ⌝ }
+{
+    if words.len() == 0 {
+        return at;
+    }
+    let first = put_first(buf, at, words[0]);
+    put_more(buf, first, &words[1..])
+}
+
+fn put_job_name<'a>(
+    buf: &mut [u8],
+    at: usize,
+    t: Table,
+    k: usize,
+    names: usize,
+    cabinet: &'a [u8],
+    house: &'a [u8],
+) -> usize
+    requires { ⌜ at ≤ length (now buf) ⌝ }
+    requires { ⌜ k < mostTasks ⌝ }
+    ensures { λ r. ⌜ r ≤ length (now (buf .entry)) ⌝ }
+{
+    let rs = t.records;
+    let r = rs[k];
+    let numbered = cells::put_cell(buf, at, Cell::Number(k as u64 + 1), 2);
+    let start = cells::space(buf, numbered);
+    names::put(buf, start, r.name, cabinet, house, names)
+}
+
+fn put_job_regions<'a>(
+    buf: &mut [u8],
+    at: usize,
+    t: Table,
+    k: usize,
+    own: &'a [u32],
+    catalogue: &'a [u32],
+) -> usize
+    requires { ⌜ at ≤ length (now buf) ⌝ }
+    requires { ⌜ k < mostTasks ⌝ }
+    ensures { λ r. ⌜ r ≤ length (now (buf .entry)) ⌝ }
+{
+    let words = parts::regions_words(t, own, catalogue, k + 1);
+    let said = put_regions(buf, at, words);
+    say::newline(buf, said)
+}
+
+struct Widths {
+    names: usize,
+    columns: [usize; COLUMNS],
+}
+
+fn put_job<'a, 'b>(
+    buf: &mut [u8],
+    at: usize,
+    f: Facts,
+    k: usize,
+    widths: Widths,
+    own: &'a [u32],
+    catalogue: &'a [u32],
+    cabinet: &'b [u8],
+    house: &'b [u8],
+) -> usize
+    requires { ⌜ at ≤ length (now buf) ⌝ }
+    requires { ⌜ k < mostTasks ⌝ }
+    ensures { λ r. ⌜ r ≤ length (now (buf .entry)) ⌝ }
+{
+    let t = f.table;
+    let named = put_job_name(buf, at, t, k, widths.names, cabinet, house);
+    let columns = widths.columns;
+    let told = put_columns(buf, named, f, k, columns);
+    put_job_regions(buf, told, t, k, own, catalogue)
+}
+
+fn put_table<'a, 'b>(
+    buf: &mut [u8],
+    at: usize,
+    f: Facts,
+    n: usize,
+    widths: Widths,
+    own: &'a [u32],
+    catalogue: &'a [u32],
+    cabinet: &'b [u8],
+    house: &'b [u8],
+) -> usize
+    requires { ⌜ at ≤ length (now buf) ⌝ }
+    ensures { λ r. ⌜ r ≤ length (now (buf .entry)) ⌝ }
+{
+    let mut end = at;
+    let mut k: usize = 0;
+    while k < MOST_TASKS && k < n {
+        end = put_job(buf, end, f, k, widths, own, catalogue, cabinet, house);
+        k += 1;
+    }
+    end
+}
+
+fn put_why(buf: &mut [u8], at: usize, what: &[u8], r: Refusal) -> usize
+    requires { ⌜ at ≤ length (now buf) ⌝ }
+    ensures { λ x. ⌜ x ≤ length (now (buf .entry)) ⌝ }
+{
+    let named = say::word(buf, at, what);
+    cells::put_refused(buf, named, r)
+}
+
+// Why there are dashes in the table: the first call that turned it away.
+fn put_notes(buf: &mut [u8], at: usize, f: Facts) -> usize
+    requires { ⌜ at ≤ length (now buf) ⌝ }
+    ensures { λ r. ⌜ r ≤ length (now (buf .entry)) ⌝ }
+{
+    let times = f.times;
+    let of_times = times.outcome;
+    if let Outcome::Refused(r) = of_times {
+        return put_why(buf, at, b"times, tolerances, lengths: ", r);
+    }
+    let tolerances = f.tolerances;
+    let of_tolerances = tolerances.outcome;
+    if let Outcome::Refused(r) = of_tolerances {
+        return put_why(buf, at, b"tolerances, lengths: ", r);
+    }
+    let lengths = f.lengths;
+    let of_lengths = lengths.outcome;
+    if let Outcome::Refused(r) = of_lengths {
+        return put_why(buf, at, b"lengths: ", r);
+    }
+    at
+}
+
+fn put_job_number(buf: &mut [u8], at: usize, what: &[u8], job: usize) -> usize
+    requires { ⌜ at ≤ length (now buf) ⌝ }
+    ensures { λ r. ⌜ r ≤ length (now (buf .entry)) ⌝ }
+{
+    let said = say::count(buf, at, what, job as u64);
+    say::word(buf, said, b")")
+}
+
+fn put_deadlines(buf: &mut [u8], at: usize, f: Facts, n: usize) -> usize
+    requires { ⌜ at ≤ length (now buf) ⌝ }
+    ensures { λ r. ⌜ r ≤ length (now (buf .entry)) ⌝ }
+{
+    let late = show_facts::first_late(f, n);
+    if late == 0 {
+        return say::word(buf, at, b"deadlines kept");
+    }
+    put_job_number(buf, at, b"deadlines MISSED (job", late)
+}
+
+fn put_fit(buf: &mut [u8], at: usize, f: Facts, n: usize, fit: FitAnswer) -> usize
+    requires { ⌜ at ≤ length (now buf) ⌝ }
+    ensures { λ r. ⌜ r ≤ length (now (buf .entry)) ⌝ }
+{
+    match fit {
+        FitAnswer::Fits => say::word(buf, at, b", regions fit"),
+        FitAnswer::Unfit => {
+            let fits = f.fits;
+            let unfit = show_facts::first_unfit(fits, n);
+            put_job_number(buf, at, b", regions TOO LONG (job", unfit)
+        }
+        FitAnswer::Refused(_) => say::word(buf, at, b", regions not checked"),
+    }
+}
+
+// One line that says whether the deadlines are kept and whether the regions fit.
+fn put_verdict(buf: &mut [u8], at: usize, f: Facts, n: usize, fit: FitAnswer) -> usize
+    requires { ⌜ at ≤ length (now buf) ⌝ }
+    ensures { λ r. ⌜ r ≤ length (now (buf .entry)) ⌝ }
+{
+    let times = f.times;
+    let outcome = times.outcome;
+    let start = say::word(buf, at, b"verdict: ");
+    match outcome {
+        Outcome::Refused(_) => say::word(buf, start, b"nothing is checked\n"),
+        Outcome::Done => {
+            let told = put_deadlines(buf, start, f, n);
+            let fitted = put_fit(buf, told, f, n, fit);
+            say::newline(buf, fitted)
+        }
+    }
+}
+
+// What stands under the table.
+fn put_end(buf: &mut [u8], at: usize, f: Facts, n: usize, fit: FitAnswer) -> usize
+    requires { ⌜ at ≤ length (now buf) ⌝ }
+    ensures { λ r. ⌜ r ≤ length (now (buf .entry)) ⌝ }
+{
+    let parted = say::newline(buf, at);
+    let noted = put_notes(buf, parted, f);
+    put_verdict(buf, noted, f, n, fit)
+}
+
+pub fn put_sheet<'a, 'b>(
+    buf: &mut [u8],
+    at: usize,
+    t: Table,
+    own: &'a [u32],
+    catalogue: &'a [u32],
+    cabinet: &'b [u8],
+    house: &'b [u8],
+) -> usize
+    requires { ⌜ at ≤ length (now buf) ⌝ }
+    ensures { λ r. ⌜ r ≤ length (now (buf .entry)) ⌝ }
+{
+    let n = t.n;
+    let rs = t.records;
+    let f = show_facts::facts_of(t, own, catalogue);
+    let fit = lengths::region_check(t, own, catalogue);
+    let names = names::column_width(rs, n, cabinet, house);
+    let columns = widths_of(f, n);
+    let headed = put_headings(buf, at, names, columns);
+    let widths = Widths { names, columns };
+    let listed = put_table(buf, headed, f, n, widths, own, catalogue, cabinet, house);
+    put_end(buf, listed, f, n, fit)
+}
