@@ -3,11 +3,11 @@ use mathlib.Core.Path.{_≡_, refl, _∙_}
 use mathlib.Core.Logic.{by-cases}
 use mathlib.Core.List.{List}
 use Prim.Native.Nat.{ℕ, zero, suc, _+_, _-_, _*_, _/_, _%_, _^_, _≤_, _<_}
-use native.Mathlib.Nat.{div-one, div-div-eq-div-mul, pow-suc, lt-of-lt-of-le, zero-div, add-zero, add-suc, add-assoc, mul-assoc}
+use native.Mathlib.Nat.{div-one, div-div-eq-div-mul, pow-suc, zero-div, add-zero, add-suc, add-assoc, mul-assoc}
 use native.Mathlib.Decide.{decLt}
 use native.Mathlib.Omega.{arith}
 use lib.ListN.{getD, replicate}
-use lib.Pow.{pow-mono, high, low}
+use lib.Pow.{high, low}
 use Rattle.paper.specs.Bits.{bitAt, field}
 use Rattle.bits.specs.Fields.{Bytes}
 
@@ -23,14 +23,6 @@ pub field-lt : (s : List ℕ) (at w : ℕ) → field s at w < 2 ^ w
 unfolding field
 field-lt s at zero = omega arith
 field-lt s at (suc w) = rw pow-suc (omega (arith, field-lt s at w, bit-lt s (at + w)))
-
-pub field-below : (s : List ℕ) (at w n : ℕ) → w ≤ n → field s at w < 2 ^ n
-field-below s at w n h = lt-of-lt-of-le (field-lt s at w) (pow-mono h)
-
--- a bit is a field of one bit
-pub field-one : (s : List ℕ) (p : ℕ) → field s p 1 ≡ bitAt s p
-unfolding field
-field-one s p = let z : p + 0 ≡ p = omega arith in rw z (omega arith)
 
 -- the same bits are the same field
 pub field-same : (s t : List ℕ) (at w : ℕ) → SameBits s t at (at + w) → field s at w ≡ field t at w

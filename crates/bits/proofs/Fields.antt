@@ -1,47 +1,18 @@
 -- Fields one after the other, for any list of widths.
-use Prim.{tt}
-use mathlib.Core.Path.{_≡_, refl, sym, ap, _∙_}
+use mathlib.Core.Path.{_≡_, refl, _∙_}
 use mathlib.Core.Logic.{_⊎_, inl, inr, ⊎-elim, by-cases}
 use mathlib.Core.List.{List, [], _∷_, _++_}
-use Prim.Native.Nat.{ℕ, suc, _+_, _*_, _≤_, _<_}
+use Prim.Native.Nat.{ℕ, _+_, _*_, _≤_, _<_}
 use native.Mathlib.Nat.{add-assoc, add-zero}
 use native.Mathlib.Decide.{decLt}
 use native.Mathlib.Omega.{arith}
 use lib.ListN.{length}
 use Rattle.paper.specs.Bits.{bitAt, field, putField, putFields}
 use Rattle.bits.specs.Fields.{total, fieldsAt, AllFit, Bytes}
-use Rattle.bits.proofs.Field.{SameBits, field-lt, field-same, field-bits}
+use Rattle.bits.proofs.Field.{SameBits, field-same, field-bits}
 use Rattle.bits.proofs.Putting.{put-length, put-bytes, put-bit-other, put-got}
 
 -- Reading
-
-pub total-append : (ws us : List ℕ) → total (ws ++ us) ≡ total ws + total us
-total-append [] us = omega arith
-total-append (w ∷ ws) us = omega (arith, total-append ws us)
-
-pub fields-append : (s : List ℕ) (at : ℕ) (ws us : List ℕ) → fieldsAt s at (ws ++ us) ≡ fieldsAt s at ws ++ fieldsAt s (at + total ws) us
-fields-append s at [] us = rw add-zero
-fields-append s at (w ∷ ws) us = rw (fields-append s (at + w) ws us, add-assoc)
-
-pub fields-length : (s : List ℕ) (at : ℕ) (ws : List ℕ) → length (fieldsAt s at ws) ≡ length ws
-fields-length s at [] = refl
-fields-length s at (w ∷ ws) = ap suc (fields-length s (at + w) ws)
-
-pub fields-fit : (s : List ℕ) (at : ℕ) (ws : List ℕ) → AllFit ws (fieldsAt s at ws)
-fields-fit s at [] = tt
-fields-fit s at (w ∷ ws) = (field-lt s at w, fields-fit s (at + w) ws)
-
--- the same fields, each at its own distance from bit `at`: at given widths the distances compute
-abbrev pub fieldsFrom : List ℕ → ℕ → ℕ → List ℕ → List ℕ
-fieldsFrom s at o [] = []
-fieldsFrom s at o (w ∷ ws) = field s (at + o) w ∷ fieldsFrom s at (o + w) ws
-
-from-more : (s : List ℕ) (at o : ℕ) (ws : List ℕ) → fieldsAt s (at + o) ws ≡ fieldsFrom s at o ws
-from-more s at o [] = refl
-from-more s at o (w ∷ ws) = rw (add-assoc at o w, from-more s at (o + w) ws)
-
-pub fields-from : (s : List ℕ) (at : ℕ) (ws : List ℕ) → fieldsAt s at ws ≡ fieldsFrom s at 0 ws
-fields-from s at ws = ap (λ (p : ℕ). fieldsAt s p ws) (sym (add-zero at)) ∙ from-more s at 0 ws
 
 -- the same bits are the same fields
 pub fields-same : (s t : List ℕ) (at : ℕ) (ws : List ℕ) → SameBits s t at (at + total ws) → fieldsAt s at ws ≡ fieldsAt t at ws
@@ -108,9 +79,3 @@ all-got s at (w ∷ ws) (v ∷ vs) h f =
     all-other t (at + w) ws vs at w (inl (omega arith)) ∙ put-got s at w v (omega arith) (f .0) in
     let b : fieldsAt (putFields t (at + w) ws vs) (at + w) ws ≡ vs = all-got t (at + w) ws vs (omega arith) (f .1) in
     cc
-
--- s's fields put into t give t the bits of s there
-pub all-bits : (s t : List ℕ) (at : ℕ) (ws : List ℕ) → at + total ws ≤ length t * 8
-    → SameBits (putFields t at ws (fieldsAt s at ws)) s at (at + total ws)
-all-bits s t at ws h =
-    fields-bits (putFields t at ws (fieldsAt s at ws)) s at ws (all-got t at ws (fieldsAt s at ws) h (fields-fit s at ws))

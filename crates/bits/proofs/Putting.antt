@@ -13,7 +13,7 @@ use lib.Pow.{shr-shr}
 use Rattle.paper.specs.Bits.{bitAt, field, withBit, putBit, putField}
 use Rattle.bits.specs.Fields.{Bytes, withBits}
 use Rattle.bits.proofs.Number.{with-at, with-other, with-lt, bits-none, bits-more}
-use Rattle.bits.proofs.Field.{SameBits, field-lt, field-same, field-bits}
+use Rattle.bits.proofs.Field.{field-same}
 
 -- One bit
 
@@ -102,10 +102,6 @@ put-got s at (suc w) v h l =
     let b : bitAt (putField t at w (v / 2)) (at + w) ≡ v % 2 =
     put-bit-other t at w (v / 2) (at + w) (inr (omega arith)) ∙ bit-got s (at + w) (v % 2) (omega arith) (omega arith) in
     rw (a, b) (omega arith)
-
--- s's field put into t gives t the bits of s there
-pub put-bits : (s t : List ℕ) (at w : ℕ) → at + w ≤ length t * 8 → SameBits (putField t at w (field s at w)) s at (at + w)
-put-bits s t at w h = field-bits (putField t at w (field s at w)) s at w (put-got t at w (field s at w) h (field-lt s at w))
 
 -- a field put in two parts, the lower first
 pub put-cut : (s : List ℕ) (at a b v : ℕ) → putField s at (a + b) v ≡ putField (putField s (at + a) b v) at a (v / 2 ^ b)

@@ -1,26 +1,14 @@
 -- Lists of asks: `firstOf` goes through them one after the other.
 use mathlib.Core.Path.{_≡_, refl}
-use mathlib.Core.Bool.{Bool, true, false, not, cond}
+use mathlib.Core.Bool.{Bool, true, false, cond}
 use mathlib.Core.List.{[], _∷_, _++_}
 use Prim.Native.Nat.{ℕ}
 use native.Mathlib.Omega.{arith}
-use borrow.Author.Tests.{not-false}
 use Rattle.paper.specs.Refusals.{Asks, firstOf}
 use Rattle.paper.specs.declared.Refusal.{Refusal}
 use Rattle.paper.specs.declared.Outcome.{Outcome}
 use Rattle.paper.specs.declared.Outcome.the-variants.{Done, Refused}
-
-refused-not-done : (r : Refusal) → Refused r ≡ Done → ⊥
-refused-not-done r e = let z : _≡_ {A = ℕ} 0 1 = cc in omega arith
-
--- a list is done: its first ask does not apply, and the rest is done
-pub clear : (b : Bool) (r : Refusal) (o : Outcome) → cond b (Refused r) o ≡ Done → (b ≡ false) × (o ≡ Done)
-clear true r o e = absurd (refused-not-done r e)
-clear false r o e = (refl, e)
-
--- the same where the ask is that a condition fails: the condition holds
-pub met : (b : Bool) (r : Refusal) (o : Outcome) → cond (not b) (Refused r) o ≡ Done → (b ≡ true) × (o ≡ Done)
-met b r o e = let p = clear (not b) r o e in (not-false b (p .0), p .1)
+use Rattle.paper.proofs.Asks.{clear}
 
 -- what a call of `ask` gives, with the condition and the rest put in the paper's words
 pub asked : (r : Refusal) {b b' : Bool} {x o o' : Outcome} → x ≡ cond b (Refused r) o → b ≡ b' → o ≡ o' → x ≡ cond b' (Refused r) o'

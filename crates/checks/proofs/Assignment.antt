@@ -1,16 +1,14 @@
 -- The assignment check on a table's columns is the one on its records. It looks at no k past n, and no two priorities are the same.
 use Prim.Native.Nat.{ℕ, _<_}
 use mathlib.Core.Path.{_≡_, ap, ap₂, _∙_}
-use mathlib.Core.Bool.{Bool, true, not, _&&_, _||_}
+use mathlib.Core.Bool.{Bool, not, _&&_, _||_}
 use mathlib.Core.List.{List}
 use native.Mathlib.Omega.{arith}
-use borrow.Author.Tests.{eqb-false, not-true}
 use lib.Dec.{leb, eqb}
 use lib.ListN.{length}
-use Rattle.paper.specs.Vocabulary.{every}
 use Rattle.paper.specs.Numbers.{mostTasks, eachOnce, Assignment, thresholdsHold, assigned, unassigned, assignmentHolds}
 use Rattle.paper.specs.declared.Record.{Record}
-use Rattle.laws.proofs.Every.{both, every-says, every-same}
+use Rattle.laws.proofs.Every.{every-same}
 use Rattle.columns.specs.Columns.{columnOf, assignedBy}
 use Rattle.columns.specs.declared.Column.the-variants.{Priority, Threshold}
 use Rattle.columns.proofs.Fair.{assigned-by}
@@ -37,9 +35,3 @@ pub thresholds-same : (n : ℕ) (a b : Assignment) → ((k : ℕ) → k < n → 
     → thresholdsHold n a ≡ thresholdsHold n b
 unfolding thresholdsHold
 thresholds-same n a b p h = every-same n _ _ (λ k l. ap₂ (λ (x y : ℕ). leb 1 x && leb x y) (h k l) (p k l))
-
-pub each-once-apart : (n : ℕ) (f : ℕ → ℕ) → eachOnce n f ≡ true → (k : ℕ) → k < n → (j : ℕ) → j < k → f j ≡ f k → ⊥
-unfolding eachOnce
-each-once-apart n f e k h j l =
-    let apart = every-says n (λ k. every k (λ j. not (eqb (f j) (f k)))) (both (every n (λ k. leb 1 (f k) && leb (f k) n)) _ e .1) k h in
-    eqb-false (f j) (f k) (not-true _ (every-says k (λ j. not (eqb (f j) (f k))) apart j l))

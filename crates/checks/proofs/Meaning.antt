@@ -1,21 +1,22 @@
 -- What a call may count on once nothing that it asks applies.
-use Prim.Native.Nat.{ℕ, _≤_, _<_}
+use Prim.Native.Nat.{ℕ, _≤_}
 use mathlib.Core.Path.{_≡_}
 use mathlib.Core.Bool.{true, false}
 use mathlib.Core.List.{[], _∷_}
-use borrow.Author.Tests.{leb-true, ltb-false}
+use borrow.Author.Tests.{ltb-false}
 use lib.Dec.{leb}
 use Rattle.paper.specs.Vocabulary.{every}
-use Rattle.paper.specs.Numbers.{mostTasks, mostWords, rec, tasksInRange, countsInRange, recordsInRange, unassigned, assignmentHolds}
+use Rattle.paper.specs.Numbers.{mostTasks, rec, tasksInRange, recordsInRange, unassigned, assignmentHolds}
 use Rattle.paper.specs.Rows.{rowSize}
 use Rattle.paper.specs.Refusals.{firstOf, timesAsks, tolerancesAsks, firstAsks, deadlineAbovePeriod}
 use Rattle.paper.specs.declared.Table.{Table}
 use Rattle.paper.specs.declared.Outcome.the-variants.{Done}
-use Rattle.laws.proofs.Every.{both, within, every-says}
+use Rattle.paper.proofs.Tests.{within}
 use Rattle.columns.specs.Columns.{columnOf, Fair}
 use Rattle.columns.specs.declared.Column.the-variants.{Cost, Period, Deadline, Priority, Threshold}
 use Rattle.columns.proofs.Fair.{fair}
-use Rattle.checks.proofs.Asks.{clear, met, first-done}
+use Rattle.paper.proofs.Asks.{clear, met}
+use Rattle.checks.proofs.Asks.{first-done}
 
 -- 1 to 8 tasks
 pub some : (n : ℕ) → tasksInRange n ≡ true → 1 ≤ n
@@ -23,13 +24,6 @@ some n e = within 1 mostTasks n e .0
 
 pub few : (n : ℕ) → tasksInRange n ≡ true → n ≤ mostTasks
 few n e = within 1 mostTasks n e .1
-
--- and 0 to 100 region words
-pub counts-tasks : (n m : ℕ) → countsInRange n m ≡ true → tasksInRange n ≡ true
-counts-tasks n m e = both (tasksInRange n) (leb m mostWords) e .0
-
-pub counts-words : (n m : ℕ) → countsInRange n m ≡ true → m ≤ mostWords
-counts-words n m e = leb-true m mostWords (both (tasksInRange n) (leb m mostWords) e .1)
 
 -- response times
 pub record TimesFacts (t : Table) : Type 0 where
@@ -61,10 +55,6 @@ pub tolerances-done : (t : Table) → firstOf (tolerancesAsks t) ≡ Done → To
 tolerances-done t e =
     let p = first-done (timesAsks t) (deadlineAbovePeriod t ∷ []) e in
     record { times = times-done t (p .0); deadlines = met _ _ _ (p .1) .0 }
-
-pub deadline-within : (t : Table) → TolerancesFacts t → (k : ℕ) → k < t .n
-    → rec (t .records) k .deadline ≤ rec (t .records) k .period
-deadline-within t f k h = leb-true _ _ (every-says (t .n) _ (f .deadlines) k h)
 
 -- the listing
 pub record FirstFacts (t : Table) (room : ℕ) : Type 0 where

@@ -1,16 +1,14 @@
 -- `regionsHold` by its bounds: false where one is broken, and else what the words say. And what it says where it is true.
 use Prim.Native.Nat.{ℕ, _+_, _≤_, _<_}
 use mathlib.Core.Path.{_≡_}
-use mathlib.Core.Bool.{Bool, true, false, _&&_, and-false}
+use mathlib.Core.Bool.{true, false, _&&_, and-false}
 use mathlib.Core.List.{List}
 use borrow.Author.Tests.{le-leb, lt-leb, leb-true, eqb-true}
 use lib.Dec.{leb, eqb}
 use lib.ListN.{length, getD}
-use Rattle.paper.specs.Vocabulary.{every}
-use Rattle.paper.specs.Numbers.{mostTicks, rec, ticksInRange}
-use Rattle.paper.specs.Regions.{wordsInRange, wordsSum, regionsHold, recordRegionsHold, allRegionsHold}
-use Rattle.paper.specs.declared.Record.{Record}
-use Rattle.laws.proofs.Every.{both, within, every-says}
+use Rattle.paper.specs.Numbers.{mostTicks, ticksInRange}
+use Rattle.paper.specs.Regions.{wordsInRange, wordsSum, regionsHold}
+use Rattle.paper.proofs.Tests.{both, within, every-says}
 
 module _ (list : List ℕ) (first count c : ℕ) where
   pub first-large : 127 < first → regionsHold list first count c ≡ false
@@ -62,11 +60,3 @@ regions-say list first count c e =
       words = words-say list first count (w .0);
       sum = eqb-true (wordsSum list first count) c (w .1);
     }
-
-pub all-regions-say : (rs : List Record) (n : ℕ) (own catalogue : List ℕ) → allRegionsHold rs n own catalogue ≡ true
-    → (wordsInRange own 0 (length own) ≡ true) × ((k : ℕ) → k < n → recordRegionsHold own catalogue (rec rs k) ≡ true)
-unfolding allRegionsHold
-all-regions-say rs n own catalogue e =
-    let test : ℕ → Bool = λ k. recordRegionsHold own catalogue (rec rs k) in
-    let p = both (wordsInRange own 0 (length own)) (every n test) e in
-    (p .0, every-says n test (p .1))

@@ -39,21 +39,21 @@ pub fn tasks_in_range(n: usize) -> bool
 pub fn counts_in_range(n: usize, m: usize) -> bool
     ensures { λ b. ⌜ b ≡ countsInRange n m ⌝ }
 {
-    tasks_in_range(n) & (m <= 100)
+    tasks_in_range(n) & (m <= paper::MOST_WORDS)
 }
 
 // 9: the ranges.
 pub fn ticks_in_range(x: u32) -> bool
     ensures { λ b. ⌜ b ≡ ticksInRange x ⌝ }
 {
-    (1 <= x) & (x <= 1_000_000)
+    (1 <= x) & (x <= paper::MOST_TICKS)
 }
 
 pub fn record_in_range(r: Record) -> bool
     ensures { λ b. ⌜ b ≡ recordInRange r ⌝ }
 {
     ticks_in_range(r.cost)
-        & (ticks_in_range(r.period) & (ticks_in_range(r.deadline) & (r.name <= 127)))
+        & (ticks_in_range(r.period) & (ticks_in_range(r.deadline) & (r.name <= paper::MOST_NAME)))
 }
 
 // What is asked of each record.

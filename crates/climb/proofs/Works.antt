@@ -1,7 +1,7 @@
 -- Laws of the work that a column of tasks brings: it rises with x, and is bounded.
-use Prim.Native.Nat.{ℕ, zero, suc, _+_, _-_, _*_, _≤_, _<_}
-use mathlib.Core.Path.{_≡_, refl, ap, sym, _∙_}
-use mathlib.Core.Bool.{Bool, true, false, cond}
+use Prim.Native.Nat.{ℕ, _+_, _-_, _*_, _≤_, _<_}
+use mathlib.Core.Path.{_≡_, refl}
+use mathlib.Core.Bool.{cond}
 use mathlib.Core.List.{List}
 use native.Mathlib.Omega.{arith}
 use native.Mathlib.Nat.{le-trans, mul-le-mul, mul-le-mul-right}
@@ -9,8 +9,7 @@ use lib.Dec.{ltb}
 use lib.ListN.{getD}
 use Rattle.paper.specs.Vocabulary.{sumTo, ceilDiv}
 use Rattle.paper.specs.Numbers.{mostTasks, mostTicks, horizon}
-use Rattle.paper.specs.Analysis.{Tasks, before, load}
-use Rattle.columns.specs.Columns.{Between}
+use Rattle.paper.specs.Analysis.{before, load}
 use Rattle.laws.proofs.Least.{Mono}
 use Rattle.laws.proofs.Sums.{sum-bound, part-bound}
 use Rattle.laws.proofs.Arrivals.{ceil-bound, before-le, load-le}

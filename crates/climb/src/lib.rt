@@ -61,7 +61,7 @@ pub fn solve(n: usize, c: &Numbers, t: &Numbers, p: &Numbers, e: Equation, from:
     requires { ⌜ Ready n (now c) (now t) (now p) × Rises (timesBy n (now c) (now t)) (now p) e from ⌝ }
     ensures { λ r. ⌜ r ≡ solution (timesBy n (now (c .entry)) (now (t .entry))) (now (p .entry)) e from ⌝ }
 {
-    if from > 1000000 {
+    if from > paper::HORIZON {
         return Time::Beyond;
     }
     let mut x = from;
@@ -70,7 +70,7 @@ pub fn solve(n: usize, c: &Numbers, t: &Numbers, p: &Numbers, e: Equation, from:
         if next == x {
             return Time::At(x);
         }
-        if next > 1000000 {
+        if next > paper::HORIZON {
             return Time::Beyond;
         }
         x = next;

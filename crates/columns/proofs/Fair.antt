@@ -12,7 +12,7 @@ use lib.ListN.{length, getD, List·getD-eq-default}
 use Rattle.paper.specs.Numbers.{mostTasks, mostTicks, mostName, zeroRecord, rec, ticksInRange, recordInRange, recordsInRange, eachOnce, Assignment, thresholdsHold, assigned, unassigned, assignmentHolds}
 use Rattle.paper.specs.Analysis.{tasksOf}
 use Rattle.paper.specs.declared.Record.{Record}
-use Rattle.laws.proofs.Every.{never, both, within, every-says}
+use Rattle.paper.proofs.Tests.{never, both, within, every-says}
 use Rattle.laws.proofs.Lists.{list-length, list-at}
 use Rattle.columns.specs.Columns.{valueIn, columnOf, tasksBy, assignedBy, Between, Fair}
 use Rattle.columns.specs.declared.Column.{Column}

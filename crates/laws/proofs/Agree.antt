@@ -1,12 +1,11 @@
 -- The analysis looks at the tasks below n alone: equal numbers there give equal answers.
 use Prim.Native.Nat.{ℕ, zero, suc, _+_, _-_, _*_, _<_}
-use mathlib.Core.Path.{_≡_, refl, ap, ap₂, sym, _∙_}
-use mathlib.Core.Bool.{Bool, true, false, cond, _&&_}
-use native.Mathlib.Omega.{arith}
+use mathlib.Core.Path.{_≡_, refl, ap, ap₂, _∙_}
+use mathlib.Core.Bool.{Bool, cond, _&&_}
 use lib.Dec.{leb, ltb, eqb}
 use Rattle.paper.specs.Vocabulary.{every, ceilDiv}
 use Rattle.paper.specs.Numbers.{horizon, Assignment}
-use Rattle.paper.specs.Analysis.{Tasks, Standing, least, before, by, started, load, blocks, blocking, standing, levelSum, levelOf, startSum, startOf, finishSum, finishOf, finishFrom, job, later, worst, worstFrom, response, within, taskPasses, passes}
+use Rattle.paper.specs.Analysis.{Tasks, Standing, before, by, started, load, blocks, blocking, standing, levelSum, levelOf, startSum, startOf, finishSum, finishOf, finishFrom, job, later, worst, worstFrom, response, within, taskPasses, passes}
 use Rattle.paper.specs.declared.Time.{Time}
 use Rattle.paper.specs.declared.Time.the-variants.{At, Beyond}
 use Rattle.laws.proofs.Every.{every-same, sum-same}

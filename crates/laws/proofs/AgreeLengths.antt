@@ -1,19 +1,14 @@
--- Tolerances, lengths and the region check look at the tasks below n alone: equal numbers there give equal answers.
+-- Tolerances, and the words that lengths and the region check are written in, look at the tasks below n alone: equal numbers there give equal answers.
 use Prim.Native.Nat.{ℕ, zero, suc, _+_, _-_, _<_}
 use mathlib.Core.Path.{_≡_, refl, ap, ap₂, _∙_}
 use mathlib.Core.Bool.{Bool, cond}
-use mathlib.Core.List.{List}
 use native.Mathlib.Omega.{arith}
 use lib.Dec.{ltb}
-use lib.IntN.{ℤ, pos, subℕ}
-use lib.Signed.{ltZ}
-use Rattle.paper.specs.Vocabulary.{lowest, every}
-use Rattle.paper.specs.Numbers.{rec, eight, Assignment}
+use lib.IntN.{ℤ, subℕ}
+use Rattle.paper.specs.Vocabulary.{lowest}
+use Rattle.paper.specs.Numbers.{eight, Assignment}
 use Rattle.paper.specs.Analysis.{Tasks}
-use Rattle.paper.specs.Regions.{listOf}
-use Rattle.paper.specs.Lengths.{larger, largest, slack, tolerance, lowestBelowZero, leastOf, lengthOf, regionsFit, allFit}
-use Rattle.paper.specs.declared.Record.{Record}
-use Rattle.laws.proofs.Every.{every-same}
+use Rattle.paper.specs.Lengths.{larger, largest, slack, tolerance, leastOf}
 use Rattle.laws.proofs.Lists.{list-same}
 use Rattle.laws.proofs.Agree.{SameTasks, same-times, before-agree, load-agree}
 
@@ -55,22 +50,3 @@ module _ (y z : Tasks) (a b : Assignment) (w : SameTasks y z) (p : (j : ℕ) →
   unfolding tolerance
   tolerance-agree i l =
       largest-same (slack y a i) (slack z b i) (y .d i - 1) (slack-agree i l) ∙ ap (λ d. largest (slack z b i) (d - 1)) (w .d i l)
-
-  pub lowest-agree : lowestBelowZero y a ≡ lowestBelowZero z b
-  unfolding lowestBelowZero
-  lowest-agree =
-      lowest-same (y .n) _ _ (λ k l. ap (λ q. ltZ q (pos 0)) (tolerance-agree k l))
-      ∙ ap (λ n. lowest n (λ k. ltZ (tolerance z b k) (pos 0))) (w .n)
-
-  pub length-agree : (k : ℕ) → k < y .n → lengthOf y a k ≡ lengthOf z b k
-  unfolding lengthOf
-  length-agree k l =
-      least-same (y .n) _ _ _ _ (pos (y .c k)) (above-agree k l) tolerance-agree
-      ∙ ap₂ (λ n c. leastOf n (λ j. ltb (b .p j) (b .p k)) (tolerance z b) (pos c)) (w .n) (w .c k l)
-
-  pub fit-agree : (rs qs : List Record) (own catalogue : List ℕ) → ((k : ℕ) → k < y .n → rec rs k ≡ rec qs k)
-      → allFit rs y a own catalogue ≡ allFit qs z b own catalogue
-  unfolding allFit
-  fit-agree rs qs own catalogue h =
-      every-same (y .n) _ _ (λ k l. ap₂ (λ r q. regionsFit (listOf (r .source) own catalogue) r q) (h k l) (length-agree k l))
-      ∙ ap (λ n. every n (λ k. regionsFit (listOf (rec qs k .source) own catalogue) (rec qs k) (lengthOf z b k))) (w .n)

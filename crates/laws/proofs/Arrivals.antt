@@ -3,11 +3,11 @@ use Prim.Native.Nat.{ℕ, zero, suc, _+_, _-_, _*_, _/_, _≤_, _<_, zero-le}
 use mathlib.Core.Path.{_≡_, refl, ap, sym, _∙_}
 use mathlib.Core.Bool.{Bool, true, false, cond}
 use native.Mathlib.Omega.{arith}
-use native.Mathlib.Nat.{le-trans, le-div-iff-mul-le, div-lt-iff-lt-mul, div-mul-le-self, div-zero, mul-le-mul, mul-le-mul-left, mul-le-mul-right, add-mul, mul-one, one-mul, add-div-right}
+use native.Mathlib.Nat.{le-trans, le-div-iff-mul-le, div-lt-iff-lt-mul, div-mul-le-self, div-zero, mul-le-mul-left, mul-le-mul-right, add-mul, mul-one, one-mul, add-div-right}
 use Rattle.paper.specs.Vocabulary.{ceilDiv}
 use Rattle.paper.specs.Analysis.{Tasks, before, by, load}
 use Rattle.laws.proofs.Every.{sum-same}
-use Rattle.laws.proofs.Sums.{sum-le, sum-add, sum-bound, sum-part, part-le, part-bound}
+use Rattle.laws.proofs.Sums.{sum-le, sum-add, sum-part, part-le}
 
 pub div-mono : (t a b : ℕ) → a ≤ b → a / t ≤ b / t
 div-mono zero a b h = rw (div-zero a) zero-le
@@ -34,11 +34,6 @@ module _ (y : Tasks) (j : ℕ) where
         let f : 1 + x / y .t j ≡ x / y .t j + 1 = omega arith in
         rw (e, f) (sym (add-div-right x h))
 
-    -- at most one each tick
-    pub before-bound : (x : ℕ) → before y x j ≤ x
-    unfolding before
-    before-bound x = ceil-bound (y .t j) x h
-
     -- the first at 0
     pub before-first : (x : ℕ) → 1 ≤ x → 1 ≤ before y x j
     unfolding before
@@ -52,10 +47,6 @@ module _ (y : Tasks) (set : ℕ → Bool) where
   pub load-le : (f g : ℕ → ℕ) → ((j : ℕ) → j < y .n → f j ≤ g j) → load y set f ≤ load y set g
   unfolding load
   load-le f g h = sum-le (y .n) _ _ (λ j l. part-le (set j) (mul-le-mul-right (y .c j) (h j l)))
-
-  pub load-bound : (f : ℕ → ℕ) (jobs cost : ℕ) → ((j : ℕ) → j < y .n → (f j ≤ jobs) × (y .c j ≤ cost)) → load y set f ≤ y .n * (jobs * cost)
-  unfolding load
-  load-bound f jobs cost h = sum-bound (y .n) (jobs * cost) _ (λ j l. part-bound (set j) (mul-le-mul (h j l .0) (h j l .1)))
 
   -- one task that counts
   pub load-part : (f : ℕ → ℕ) (i : ℕ) → i < y .n → set i ≡ true → f i * y .c i ≤ load y set f

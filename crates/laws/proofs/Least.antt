@@ -5,9 +5,9 @@ use mathlib.Core.Bool.{Bool, true, false}
 use mathlib.Core.Logic.{⊎-elim}
 use native.Mathlib.Decide.{decLe, decLt}
 use native.Mathlib.Omega.{arith}
-use native.Mathlib.Nat.{le-refl, le-trans, eq-or-lt-of-le, add-zero, add-suc}
+use native.Mathlib.Nat.{le-refl, le-trans, eq-or-lt-of-le}
 use lib.Dec.{eqb}
-use borrow.Author.Tests.{eq-eqb, ne-eqb, eqb-true}
+use borrow.Author.Tests.{eq-eqb, ne-eqb}
 use Rattle.paper.specs.Numbers.{horizon}
 use Rattle.paper.specs.Analysis.{least}
 use Rattle.paper.specs.declared.Time.{Time}

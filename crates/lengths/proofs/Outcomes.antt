@@ -17,8 +17,8 @@ use Rattle.paper.specs.declared.Outcome.{Outcome}
 use Rattle.paper.specs.declared.Outcome.the-variants.{Done, Refused}
 use Rattle.paper.specs.declared.TicksAnswer.{TicksAnswer}
 use Rattle.paper.specs.declared.FitAnswer.the-variants as Fit
-use Rattle.laws.proofs.Every.{both}
-use Rattle.checks.proofs.Asks.{met}
+use Rattle.paper.proofs.Tests.{both}
+use Rattle.paper.proofs.Asks.{met}
 use Rattle.checks.proofs.Meaning.{few, tolerances-done}
 use Rattle.lengths.specs.Stages.{earlyAsks, turnedAway}
 

@@ -3,6 +3,7 @@
 ghost use Prim.Native.Nat.{_≤_};
 ghost use lib.ListN.{length};
 use paper::MOST_TASKS;
+use paper::MOST_WORDS;
 use paper::Outcome;
 use paper::Refusal;
 use paper::RowAnswer;
@@ -107,7 +108,7 @@ fn put_list(buf: &mut [u8], input: &[u8]) -> usize
     let cabinet = request::plate_cabinet(input);
     let line = request::plate_line(input);
     let catalogue: [u32; 0] = [];
-    let mut words = [0u32; 100];
+    let mut words = [0u32; MOST_WORDS];
     let answer = reader::read(&input[PLATE_BYTES..], cabinet, line, &catalogue, &mut words);
     let outcome = answer.outcome;
     match outcome {

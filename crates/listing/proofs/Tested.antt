@@ -9,7 +9,7 @@ use lib.Seq.{length-take-le}
 use Rattle.paper.specs.Numbers.{mostTasks, eight, eachOnce, thresholdsHold}
 use Rattle.paper.specs.Analysis.{Tasks, passes}
 use Rattle.paper.specs.Rows.{rowSize, placeOf, rowAssignment, rowHolds}
-use Rattle.laws.proofs.Every.{never}
+use Rattle.paper.proofs.Tests.{never}
 use Rattle.laws.proofs.Lists.{eight-at, eight-length}
 use Rattle.laws.proofs.Agree.{SameTasks, passes-agree}
 use Rattle.columns.specs.Columns.{tasksBy, assignedBy, Fair}

@@ -7,6 +7,8 @@ ghost use Rattle.paper.specs.Numbers.{mostTasks, mostWords};
 ghost use Rattle.paper.specs.Bits.{putField, putFields};
 ghost use Rattle.paper.specs.File.{sourceBit, recordWidths, recordValues, recordAt, wordAt, fileLength, putHead, putRecords, putWords};
 ghost use Rattle.pack.specs.Widths.{ticksWidths, levelWidths, regionWidths, nameWidths};
+use paper::Cabinet;
+use paper::Line;
 use paper::MOST_TASKS;
 use paper::Record;
 use paper::Source;
@@ -24,12 +26,12 @@ fn clear(s: &mut [u8])
 }
 
 // Makes s the head over zero bits.
-pub fn put_head(s: &mut [u8], cabinet: u32, line: u16, n: usize, m: usize)
+pub fn put_head(s: &mut [u8], cabinet: Cabinet, line: Line, n: usize, m: usize)
     requires { ⌜ (n ≤ mostTasks) × (m ≤ mostWords) × (length (now s) ≡ fileLength n m) ⌝ }
-    ensures { λ _. ⌜ now (s .exit) ≡ putHead cabinet line n m ⌝ }
+    ensures { λ _. ⌜ now (s .exit) ≡ putHead (cabinet .0) (line .0) n m ⌝ }
 {
     clear(s);
-    let values: [u64; 6] = [1, 0, cabinet as u64, line as u64, n as u64, m as u64];
+    let values: [u64; 6] = [1, 0, cabinet.0 as u64, line.0 as u64, n as u64, m as u64];
     bits::put_all(s, 0, &HEAD_WIDTHS, &values);
 }
 
@@ -84,7 +86,7 @@ fn put_record(s: &mut [u8], k: usize, r: Record)
 {
     let source = r.source;
     let bit = source_bit(source);
-    let at = 64 + 96 * k;
+    let at = layout::HEAD_BITS + layout::RECORD_BITS * k;
     put_ticks(s, at, r.cost, r.period, r.deadline);
     put_levels(s, at + 60, r.priority, r.threshold);
     put_regions(s, at + 60 + 8, bit, r.first, r.count);
@@ -117,7 +119,7 @@ fn put_pairs(s: &mut [u8], n: usize, ws: &[u32], p: usize)
     requires { ⌜ (n ≤ mostTasks) × (2 * p ≤ length (now ws)) × (length (now ws) ≤ mostWords) × (wordAt n (length (now ws)) ≤ length (now s) * 8) ⌝ }
     ensures { λ _. ⌜ now (s .exit) ≡ putWords (now (s .entry)) n (now (ws .entry)) (2 * p) ⌝ }
 {
-    let at = 64 + 96 * n;
+    let at = layout::HEAD_BITS + layout::RECORD_BITS * n;
     let mut i: usize = 0;
     while i < p {
         put_pair(s, at + 40 * i, ws[2 * i], ws[2 * i + 1]);
@@ -136,5 +138,6 @@ pub fn put_words(s: &mut [u8], n: usize, ws: &[u32])
     if m == 2 * p {
         return;
     }
-    bits::put(s, 64 + 96 * n + 20 * (2 * p), 20, ws[2 * p] as u64);
+    let at = layout::HEAD_BITS + layout::RECORD_BITS * n + layout::WORD_BITS * (2 * p);
+    bits::put(s, at, layout::WORD_BITS, ws[2 * p] as u64);
 }

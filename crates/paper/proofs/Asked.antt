@@ -2,7 +2,7 @@
 use Prim.Native.Nat.{ℕ}
 use mathlib.Core.Path.{_≡_, refl}
 use mathlib.Core.List.{List, [], _∷_, map}
-use Rattle.paper.specs.Refusals.{numberOf, Asks, fileAsks, recordAsks, readAsks, writeAsks, timesAsks, tolerancesAsks, lengthsAsks, fitAsks, firstAsks, nextAsks, regionsAsks, nameAsks}
+use Rattle.paper.specs.Refusals.{numberOf, Asks, recordAsks, readAsks, writeAsks, timesAsks, tolerancesAsks, lengthsAsks, fitAsks, firstAsks, nextAsks, regionsAsks, nameAsks}
 use Rattle.paper.specs.declared.Table.{Table}
 
 abbrev numbers : Asks → List ℕ

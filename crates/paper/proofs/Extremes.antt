@@ -18,14 +18,6 @@ by-test P false h k = k refl
 
 -- the larger and the smaller of two
 
-pub larger-second : (a b : ℤ) → leZ a b ≡ true → larger a b ≡ b
-unfolding larger
-larger-second a b e = rw e
-
-pub larger-first : (a b : ℤ) → leZ a b ≡ false → larger a b ≡ a
-unfolding larger
-larger-first a b e = rw e
-
 pub larger-either : (P : ℤ → Type 0) (a b : ℤ) → P a → P b → P (larger a b)
 unfolding larger
 larger-either P a b h k = by-test P (leZ a b) (λ e. k) (λ e. h)

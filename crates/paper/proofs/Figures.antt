@@ -2,7 +2,6 @@
 -- By computation. Assumes nothing.
 use mathlib.Core.Path.{_≡_, refl}
 use mathlib.Core.List.{List, [], _∷_, map}
-use Prim.Native.Nat.{ℕ}
 use Rattle.paper.specs.Vocabulary.{every, listTo, lowest, sumTo, maxTo}
 use Rattle.paper.specs.Numbers.{eight, eachOnce, thresholdsHold}
 use Rattle.paper.specs.Seal.{sealBit, sealBits, sealByte, sealFrom, sealOf}

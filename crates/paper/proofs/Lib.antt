@@ -1,3 +1,5 @@
+pub mod Tests
+pub mod Asks
 pub mod Figures
 pub mod Asked
 pub mod Responses
@@ -8,4 +10,5 @@ pub mod Listing
 pub mod Signed
 pub mod Extremes
 pub mod Writing
-pub mod Exhausted
+pub mod Costs
+pub mod Sizes

@@ -1,33 +1,20 @@
 -- Reading a file: what is known of a file that was read, and that nothing else keeps a file from being read.
-use Prim.{Unit, tt}
-use mathlib.Core.Path.{_≡_, refl, ap}
-use mathlib.Core.Bool.{Bool, true, false, not, _&&_}
-use mathlib.Core.List.{List, [], _∷_}
+use Prim.{tt}
+use mathlib.Core.Path.{_≡_, ap}
+use mathlib.Core.Bool.{true, not}
+use mathlib.Core.List.{List}
 use Prim.Native.Nat.{ℕ, _-_, _≤_}
-use native.Mathlib.Omega.{arith}
 use borrow.Author.Tests.{leb-true, ltb-false, eqb-true, not-false, le-leb, le-ltb, eq-eqb}
-use lib.Dec.{leb, eqb}
+use lib.Dec.{leb}
 use lib.ListN.{length}
 use Rattle.paper.specs.Numbers.{mostTasks, mostWords, countsInRange, tasksInRange, recordsInRange, assignmentHolds}
 use Rattle.paper.specs.File.{editionIn, cabinetIn, lineIn, tasksIn, wordsIn, shortest, fileLength, sealed, spareClear, recordsIn, regionWords}
 use Rattle.paper.specs.Regions.{allRegionsHold}
-use Rattle.paper.specs.Refusals.{Asks, firstOf, fileAsks, readAsks}
+use Rattle.paper.specs.Refusals.{readAsks}
 use Rattle.paper.specs.Answers.{readOutcome}
-use Rattle.paper.specs.declared.Outcome.the-variants.{Done, Refused}
-
--- A call is done exactly when none of its asks applies.
-abbrev pub NoneApplies : Asks → Type 0
-NoneApplies [] = Unit {0}
-NoneApplies (ask ∷ asks) = (ask .1 ≡ false) × NoneApplies asks
-
-pub done-none : (asks : Asks) → firstOf asks ≡ Done → NoneApplies asks
-done-none [] e = tt
-done-none ((r, true) ∷ asks) e = let z : _≡_ {A = ℕ} 0 1 = cc in absurd (omega arith)
-done-none ((r, false) ∷ asks) e = (refl, done-none asks e)
-
-pub none-done : (asks : Asks) → NoneApplies asks → firstOf asks ≡ Done
-none-done [] h = refl
-none-done (ask ∷ asks) h = rw (h .0) (none-done asks (h .1))
+use Rattle.paper.specs.declared.Outcome.the-variants.{Done}
+use Rattle.paper.proofs.Tests.{both, within}
+use Rattle.paper.proofs.Asks.{done-none, none-done}
 
 -- What is known of a file that was read for a cabinet and a line, with a catalogue, into room for so many words.
 pub record Loaded (f : List ℕ) (cabinet line : ℕ) (catalogue : List ℕ) (room : ℕ) : Type 0 where
@@ -47,10 +34,6 @@ pub record Loaded (f : List ℕ) (cabinet line : ℕ) (catalogue : List ℕ) (ro
   pub regions : allRegionsHold (recordsIn f (tasksIn f)) (tasksIn f) (regionWords f (tasksIn f) (wordsIn f)) catalogue ≡ true
   pub fits : wordsIn f ≤ room
 
-both : (a b : Bool) → (a && b) ≡ true → (a ≡ true) × (b ≡ true)
-both true b e = (refl, e)
-both false b e = let z : _≡_ {A = ℕ} 0 1 = cc in absurd (omega arith)
-
 module _ (f : List ℕ) (cabinet line : ℕ) (catalogue : List ℕ) (room : ℕ) where
   -- What was read is as it should be.
   pub read-says : readOutcome f cabinet line catalogue room ≡ Done → Loaded f cabinet line catalogue room
@@ -68,14 +51,14 @@ module _ (f : List ℕ) (cabinet line : ℕ) (catalogue : List ℕ) (room : ℕ)
       let a11 = a10 .1 in
       let a12 = a11 .1 in
       let counts = both (tasksInRange (tasksIn f)) (leb (wordsIn f) mostWords) (not-false (countsInRange (tasksIn f) (wordsIn f)) (a5 .0)) in
-      let tasks = both (leb 1 (tasksIn f)) (leb (tasksIn f) mostTasks) (counts .0) in
+      let tasks = within 1 mostTasks (tasksIn f) (counts .0) in
       record {
         long = ltb-false (length f) shortest (a1 .0);
         edition = eqb-true (editionIn f) 1 (not-false _ (a2 .0));
         cabinets = eqb-true (cabinetIn f) cabinet (not-false _ (a3 .0));
         lines = eqb-true (lineIn f) line (not-false _ (a4 .0));
-        some-tasks = leb-true 1 (tasksIn f) (tasks .0);
-        few-tasks = leb-true (tasksIn f) mostTasks (tasks .1);
+        some-tasks = tasks .0;
+        few-tasks = tasks .1;
         few-words = leb-true (wordsIn f) mostWords (counts .1);
         size = eqb-true (length f) (fileLength (tasksIn f) (wordsIn f)) (not-false _ (a6 .0));
         seal = not-false _ (a7 .0);

@@ -6,10 +6,10 @@ use mathlib.Core.Logic.{⊎-elim, _⊎_, inl, inr, _↔_}
 use native.Mathlib.Decide.{decLe}
 use native.Mathlib.Omega.{arith}
 use native.Mathlib.Nat.{eq-or-lt-of-le, le-div-iff-mul-le, one-mul, zero-mul}
-use lib.Dec.{T, leb, ltb, leb→le, le→leb}
+use lib.Dec.{leb, ltb, leb→le, le→leb}
 use lib.IntN.{ℤ, pos, negsuc, subℕ, pos-ne-negsuc}
-use lib.Signed.{leZ, _≤ℤ_}
-use borrow.Author.Tests.{le-leb, leb-true, ltb-true, ltb-false, lt-ltb, le-ltb}
+use lib.Signed.{_≤ℤ_}
+use borrow.Author.Tests.{le-leb, leb-true, ltb-true, le-ltb}
 use Rattle.paper.specs.Analysis.{Tasks, Standing, least, before, levelOf, startOf, finishOf, finishFrom, job, later, worst, worstFrom, response, within}
 use Rattle.paper.specs.declared.Time.{Time}
 use Rattle.paper.specs.declared.Time.the-variants.{At, Beyond}
@@ -53,7 +53,7 @@ least-low test from (suc n) x e = go (test from) e (least-low test (suc from) n 
     go false h r = omega (arith, r h)
 
 -- so L and every F are above 0
-level-positive : (y : Tasks) (s : Standing) (l : ℕ) → levelOf y s ≡ At l → 1 ≤ l
+pub level-positive : (y : Tasks) (s : Standing) (l : ℕ) → levelOf y s ≡ At l → 1 ≤ l
 unfolding levelOf
 level-positive y s l e = least-low _ 1 _ l e
 
@@ -66,7 +66,7 @@ finish-positive y s i k f e = go (startOf y s i k) e
     go Beyond h = let z : _≡_ {A = ℕ} 0 1 = cc in absurd (omega arith)
 
 -- there is a first job
-first-job : (y : Tasks) (i l : ℕ) → 1 ≤ y .t i → 1 ≤ l → 0 < before y l i
+pub first-job : (y : Tasks) (i l : ℕ) → 1 ≤ y .t i → 1 ≤ l → 0 < before y l i
 unfolding before
 first-job y i l ht hl = le-div-iff-mul-le ht .1 (rw one-mul (omega arith))
 

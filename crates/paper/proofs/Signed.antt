@@ -9,16 +9,8 @@ use lib.Dec.{T, leb, ltb, leb→le, le→leb}
 use lib.IntN.{ℤ, pos, negsuc, negℤ, subℕ, _+ℤ_, _-ℤ_, +ℤ-assoc, negℤ-+ℤ}
 use lib.Signed.{leZ, ltZ, _≤ℤ_, _<ℤ_, ltZ-no, clashℤ}
 
--- a test that passed, and the fact it tests
-is-true : (b : Bool) → T b → b ≡ true
-is-true true t = refl
-is-true false t = absurd t
-
 pub leZ-says : {a b : ℤ} → leZ a b ≡ true → a ≤ℤ b
 leZ-says e = record { le = subst T (sym e) tt }
-
-pub leZ-holds : {a b : ℤ} → a ≤ℤ b → leZ a b ≡ true
-leZ-holds {a} {b} h = is-true (leZ a b) (h .le)
 
 pub ltZ-says : {a b : ℤ} → ltZ a b ≡ true → a <ℤ b
 ltZ-says e = record { lt = subst T (sym e) tt }
@@ -77,14 +69,6 @@ sub-below a b h = simp (lt-ltb a b h)
 
 pub sub-above : (a b : ℕ) → b ≤ a → subℕ a b ≡ pos (a - b)
 sub-above a b h = simp (le-ltb a b h)
-
--- a − b is below zero where a < b
-pub sub-negative : (a b : ℕ) → ltZ (subℕ a b) (pos 0) ≡ ltb a b
-sub-negative a b = go (ltb a b) refl
-  where
-    go : (t : Bool) → ltb a b ≡ t → ltZ (subℕ a b) (pos 0) ≡ ltb a b
-    go true e = rw e
-    go false e = rw e (le-ltb (a - b) 0 (omega arith))
 
 same : (a b c d : ℕ) → (a ≤ b → c ≤ d) → (c ≤ d → a ≤ b) → leb a b ≡ leb c d
 same a b c d h k = go (leb a b) refl (leb c d) refl

@@ -1,7 +1,7 @@
 -- Writing a table: what is known of a table that the writer takes, and that nothing else keeps a table from being written.
 use Prim.{tt}
 use mathlib.Core.Path.{_≡_, ap}
-use mathlib.Core.Bool.{true, not, and-eq-true-iff}
+use mathlib.Core.Bool.{true, not}
 use mathlib.Core.List.{List}
 use Prim.Native.Nat.{ℕ, _≤_}
 use borrow.Author.Tests.{leb-true, ltb-false, not-false, le-leb, le-ltb}
@@ -14,7 +14,8 @@ use Rattle.paper.specs.Refusals.{writeAsks}
 use Rattle.paper.specs.Answers.{writeOutcome}
 use Rattle.paper.specs.declared.Outcome.the-variants.{Done}
 use Rattle.paper.specs.declared.Table.{Table}
-use Rattle.paper.proofs.Reading.{done-none, none-done}
+use Rattle.paper.proofs.Tests.{both, within}
+use Rattle.paper.proofs.Asks.{done-none, none-done}
 
 -- What is known of a table that is written for a cabinet, with its region words and a catalogue, into room for so many bytes.
 pub record Taken (t : Table) (cabinet : ℕ) (own catalogue : List ℕ) (room : ℕ) : Type 0 where
@@ -34,12 +35,12 @@ module _ (t : Table) (cabinet : ℕ) (own catalogue : List ℕ) (room : ℕ) whe
       let a9 = a5 .1 in
       let a10 = a9 .1 in
       let a11 = a10 .1 in
-      let counts = and-eq-true-iff (tasksInRange (t .n)) (leb (length own) mostWords) .0 (not-false (countsInRange (t .n) (length own)) (a5 .0)) in
-      let tasks = and-eq-true-iff (leb 1 (t .n)) (leb (t .n) mostTasks) .0 (counts .0) in
-      let numbers = and-eq-true-iff (leb cabinet mostCabinet) (recordsInRange (t .records) (t .n)) .0 (not-false _ (a9 .0)) in
+      let counts = both (tasksInRange (t .n)) (leb (length own) mostWords) (not-false (countsInRange (t .n) (length own)) (a5 .0)) in
+      let tasks = within 1 mostTasks (t .n) (counts .0) in
+      let numbers = both (leb cabinet mostCabinet) (recordsInRange (t .records) (t .n)) (not-false _ (a9 .0)) in
       record {
-        some-tasks = leb-true 1 (t .n) (tasks .0);
-        few-tasks = leb-true (t .n) mostTasks (tasks .1);
+        some-tasks = tasks .0;
+        few-tasks = tasks .1;
         few-words = leb-true (length own) mostWords (counts .1);
         cabinets = leb-true cabinet mostCabinet (numbers .0);
         ranges = numbers .1;

@@ -56,10 +56,11 @@ pub record Standing : Type 0 where
 -- in L those with p(j) ≤ p(i), in S those with p(j) < p(i), in F those with p(j) < h(i)
 unfoldable pub standing : Tasks → Assignment → ℕ → Standing
 standing y a i = record {
-    b = blocking y a i;
-    level = λ j. leb (a .p j) (a .p i);
-    above = λ j. ltb (a .p j) (a .p i);
-    cuts = λ j. ltb (a .p j) (a .h i) }
+  b = blocking y a i;
+  level = λ j. leb (a .p j) (a .p i);
+  above = λ j. ltb (a .p j) (a .p i);
+  cuts = λ j. ltb (a .p j) (a .h i);
+}
 
 -- L(i) is the smallest positive L with L = B(i) + sum over p(j) ≤ p(i) of ceil(L/T(j))·C(j)
 unfoldable pub levelSum : Tasks → Standing → ℕ → ℕ

@@ -1,9 +1,9 @@
 -- What each of the eleven calls answers, and what every lent memory holds afterwards.
 -- A refusal returns its number (and record, for 16) and no lent byte or word has changed. On success only the bytes or words of the answer are written; the rest stay.
-use Prim.Native.Nat.{ℕ, zero, suc, _+_, _-_, _*_}
+use Prim.Native.Nat.{ℕ, _+_, _-_}
 use mathlib.Core.Path.{_≡_}
-use mathlib.Core.Bool.{Bool, true, false, cond}
-use mathlib.Core.List.{List, [], _∷_, _++_}
+use mathlib.Core.Bool.{Bool, cond}
+use mathlib.Core.List.{List, [], _++_}
 use lib.IntN.{ℤ, pos}
 use lib.ListN.{length, take, drop, replicate}
 use Rattle.paper.specs.Numbers.{mostTasks, eight, zeroRecord, rec, assigned}
@@ -15,7 +15,6 @@ use Rattle.paper.specs.Rows.{rowSize, Next, Ended}
 use Rattle.paper.specs.Refusals.{firstOf, readAsks, recordAsks, writeAsks, timesAsks, tolerancesAsks, lengthsAsks, fitAsks, firstAsks, nextAsks, regionsAsks, nameAsks}
 use Rattle.paper.specs.declared.Source.{Source}
 use Rattle.paper.specs.declared.Source.the-variants.{Own}
-use Rattle.paper.specs.declared.Refusal.{Refusal}
 use Rattle.paper.specs.declared.Table.{Table}
 use Rattle.paper.specs.declared.Outcome.{Outcome}
 use Rattle.paper.specs.declared.Outcome.the-variants.{Done, Refused}

@@ -1,5 +1,5 @@
 -- Document 01, "Bench figures": those marked P, as one table of what is asked and what comes out.
-use Prim.Native.Nat.{ℕ, zero, suc, _+_, _-_, _*_}
+use Prim.Native.Nat.{ℕ, zero, suc, _+_, _-_}
 use mathlib.Core.Bool.{Bool, true, false, _&&_, cond}
 use mathlib.Core.List.{List, [], _∷_, _++_, map}
 use lib.IntN.{ℤ, pos}
@@ -109,7 +109,6 @@ abbrev pub _gives_ : Asked → Came → Figure
 _gives_ q a = record { asked = q; comes = a }
 
 infixl 25 _gives_
-
 abbrev pub figures : List Figure
 figures =
     -- A (2,5,5), order A B, thresholds 1 2: R = 2 and 8

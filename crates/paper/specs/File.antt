@@ -1,8 +1,8 @@
 -- Document 01, "The file, bit by bit".
 use Prim.Native.Nat.{ℕ, zero, suc, _+_, _-_, _*_, _/_}
-use mathlib.Core.Bool.{Bool, true, false, not, _&&_}
-use mathlib.Core.List.{List, [], _∷_, _++_}
-use lib.Dec.{leb, eqb}
+use mathlib.Core.Bool.{Bool, _&&_}
+use mathlib.Core.List.{List, [], _∷_}
+use lib.Dec.{eqb}
 use lib.ListN.{getD, length, take, replicate}
 use Rattle.paper.specs.Vocabulary.{listTo, every}
 use Rattle.paper.specs.Numbers.{eight, zeroRecord, rec}
@@ -61,15 +61,16 @@ recordAt k = 64 + recordBits * k
 
 abbrev pub recordIn : List ℕ → ℕ → Record
 recordIn f k = record {
-    cost = field f (recordAt k) 20;
-    period = field f (recordAt k + 20) 20;
-    deadline = field f (recordAt k + 40) 20;
-    priority = field f (recordAt k + 60) 4;
-    threshold = field f (recordAt k + 64) 4;
-    source = sourceOf (field f (recordAt k + 68) 1);
-    first = field f (recordAt k + 69) 7;
-    count = field f (recordAt k + 76) 7;
-    name = field f (recordAt k + 83) 7 }
+  cost = field f (recordAt k) 20;
+  period = field f (recordAt k + 20) 20;
+  deadline = field f (recordAt k + 40) 20;
+  priority = field f (recordAt k + 60) 4;
+  threshold = field f (recordAt k + 64) 4;
+  source = sourceOf (field f (recordAt k + 68) 1);
+  first = field f (recordAt k + 69) 7;
+  count = field f (recordAt k + 76) 7;
+  name = field f (recordAt k + 83) 7;
+}
 
 -- Region words, 20 bits each, after n records
 abbrev pub wordAt : ℕ → ℕ → ℕ

@@ -1,11 +1,11 @@
 -- Document 01, "Numbers a table may hold".
-use Prim.Native.Nat.{ℕ, zero, suc, _+_, _-_, _*_, _^_}
-use mathlib.Core.Bool.{Bool, true, false, not, _&&_, _||_}
+use Prim.Native.Nat.{ℕ, _+_, _-_, _^_}
+use mathlib.Core.Bool.{Bool, not, _&&_, _||_}
 use mathlib.Core.List.{List, _++_}
 use lib.Dec.{leb, eqb}
 use lib.ListN.{getD, replicate}
 use Rattle.paper.specs.Vocabulary.{every, listTo}
-use Rattle.paper.specs.declared.Source.the-variants.{Own, Catalogue}
+use Rattle.paper.specs.declared.Source.the-variants.{Own}
 use Rattle.paper.specs.declared.Record.{Record}
 
 -- tasks n: 1 to 8

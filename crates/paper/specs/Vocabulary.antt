@@ -1,6 +1,6 @@
 -- The few words that the other pages are written in. Nothing here is about cabinets.
 use Prim.Native.Nat.{ℕ, zero, suc, _+_, _-_, _/_, max}
-use mathlib.Core.Bool.{Bool, true, false, _&&_, cond}
+use mathlib.Core.Bool.{Bool, true, _&&_, cond}
 use mathlib.Core.List.{List, [], _∷_, _++_}
 
 -- f 0, f 1, .., f (n - 1), as a list

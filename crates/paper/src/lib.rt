@@ -3,6 +3,7 @@
 // Cabinet number, 24 bits, and line number, 16 bits: two types, so that one can't stand for the other.
 // A cabinet above 24 bits is refused when writing (9) and matches no file when reading (3).
 pub struct Cabinet(pub u32);
+
 pub struct Line(pub u16);
 
 // Where a task's regions stand: the file's own region words, or a lent catalogue.
@@ -24,8 +25,20 @@ pub struct Record {
     pub name: u32,
 }
 
-// The most tasks that a table may hold.
+// The most tasks and region words that a table may have.
 pub const MOST_TASKS: usize = 8;
+
+pub const MOST_WORDS: usize = 100;
+
+// The largest cost, period, deadline or region word; the largest name number, and the largest cabinet.
+pub const MOST_TICKS: u32 = 1_000_000;
+
+pub const MOST_NAME: u32 = 127;
+
+pub const MOST_CABINET: u32 = 0xff_ffff;
+
+// No time above it is looked for.
+pub const HORIZON: u64 = 1_000_000;
 
 // Records past n are not looked at.
 pub struct Table {

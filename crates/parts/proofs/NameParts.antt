@@ -2,7 +2,7 @@
 use mathlib.Core.Path.{_≡_, sym, _∙_}
 use mathlib.Core.Bool.{cond}
 use mathlib.Core.List.{List}
-use Prim.Native.Nat.{ℕ, zero, suc, _+_, _≤_}
+use Prim.Native.Nat.{ℕ, _+_, _≤_}
 use native.Mathlib.Numerals.{add-one}
 use borrow.Author.Tests.{ltb-false, eq-eqb, ne-eqb}
 use lib.Dec.{ltb}
@@ -15,7 +15,7 @@ use Rattle.paper.specs.declared.Refusal.the-variants.{OutOfRange, NoSuchPart}
 use Rattle.paper.specs.Numbers.{mostName}
 use Rattle.paper.specs.Regions.{noPart, nameWidth, inCabinetList, nameList, nameStart, namePart, trimmed}
 use Rattle.paper.specs.Answers.{nameOutcome}
-use Rattle.checks.proofs.Asks.{clear}
+use Rattle.paper.proofs.Asks.{clear}
 use Rattle.parts.specs.Parts.{IsPart, IsName}
 use Rattle.parts.proofs.Asked.{when-done, when-refused, is-part}
 

@@ -16,8 +16,9 @@ use Rattle.paper.specs.File.{tasksIn}
 use Rattle.paper.specs.Regions.{noPart, recordPart}
 use Rattle.paper.specs.Refusals.{firstOf, noSuchRecord, fileAsks}
 use Rattle.paper.specs.Answers.{recordOutcome}
-use Rattle.laws.proofs.Every.{within}
-use Rattle.checks.proofs.Asks.{met, asked, first-passed, first-refused, first-done}
+use Rattle.paper.proofs.Tests.{within}
+use Rattle.paper.proofs.Asks.{met}
+use Rattle.checks.proofs.Asks.{asked, first-passed, first-refused, first-done}
 use Rattle.reader.proofs.Meaning.{file-says}
 use Rattle.parts.specs.Parts.{IsPart, IsRecord}
 use Rattle.parts.proofs.Asked.{when-done, when-refused, is-part}

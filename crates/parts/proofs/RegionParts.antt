@@ -1,6 +1,6 @@
 -- Regions: a task whose regions are not turned away is in the table, its words lie in their list, and the part cut out of that list is the one that the paper names.
 use mathlib.Core.Path.{_≡_, sym, _∙_, ap}
-use mathlib.Core.Bool.{Bool, true, _&&_}
+use mathlib.Core.Bool.{true, _&&_}
 use mathlib.Core.List.{List}
 use Prim.Native.Nat.{ℕ, _+_, _-_, _≤_}
 use native.Mathlib.Omega.{arith}
@@ -17,9 +17,9 @@ use Rattle.paper.specs.declared.Outcome.{Outcome}
 use Rattle.paper.specs.declared.Outcome.the-variants.{Done, Refused}
 use Rattle.paper.specs.Numbers.{mostTasks, mostWords, rec, tasksInRange, countsInRange}
 use Rattle.paper.specs.Regions.{noPart, listOf, wordsInRange, wordsSum, regionsHold, recordRegionsHold, regionsPart}
-use Rattle.paper.specs.Answers.{whenDone, regionsOutcome, regionsSource, regionsPlace}
-use Rattle.laws.proofs.Every.{both, within}
-use Rattle.checks.proofs.Asks.{met}
+use Rattle.paper.specs.Answers.{regionsOutcome, regionsSource}
+use Rattle.paper.proofs.Tests.{both, within}
+use Rattle.paper.proofs.Asks.{met}
 use Rattle.checks.proofs.Meaning.{few}
 use Rattle.parts.specs.Parts.{IsPart, sliceOf, AreRegions}
 use Rattle.parts.proofs.Asked.{when-done, when-refused, is-part}

@@ -62,7 +62,7 @@ pub fn name_outcome<'a>(number: u32, cabinet: &'a [u8], house: &'a [u8]) -> Outc
 {
     let list = name_list(number, cabinet, house);
     let end = name_start(number) + 16;
-    if 127 < number {
+    if paper::MOST_NAME < number {
         return Outcome::Refused(Refusal::OutOfRange);
     }
     if list.len() < end {
@@ -207,11 +207,11 @@ pub fn record_outcome(
 ) -> Outcome
     ensures { λ r. ⌜ r ≡ recordOutcome (now (file .entry)) (cabinet .0) (line .0) (now (catalogue .entry)) number ⌝ }
 {
-    let outcome = reader::file_outcome(file, cabinet.0, line.0, catalogue);
+    let outcome = reader::file_outcome(file, cabinet, line, catalogue);
     match outcome {
         Outcome::Refused(r) => Outcome::Refused(r),
         Outcome::Done => {
-            let n = bits::get(file, 48, 8) as usize;
+            let n = layout::task_count(file);
             checks::ask(!is_record(number, n), Refusal::NoSuchPart, Outcome::Done)
         }
     }
@@ -232,8 +232,8 @@ fn record_for<'a>(
     match outcome {
         Outcome::Refused(_) => bytes_from(file, 0, 0),
         Outcome::Done => {
-            let from = 8 + 12 * (number - 1);
-            bytes_from(file, from, 12)
+            let from = layout::HEAD_BYTES + layout::RECORD_BYTES * (number - 1);
+            bytes_from(file, from, layout::RECORD_BYTES)
         }
     }
 }

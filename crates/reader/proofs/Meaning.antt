@@ -7,8 +7,8 @@ use borrow.Author.Tests.{le-ltb}
 use Rattle.paper.specs.File.{wordsIn}
 use Rattle.paper.specs.Refusals.{firstOf, noRoom, fileAsks}
 use Rattle.paper.specs.declared.Outcome.the-variants.{Done}
-use Rattle.paper.proofs.Reading.{Loaded, read-says, read-done}
-use Rattle.checks.proofs.Asks.{first-passed, first-done}
+use Rattle.paper.proofs.Reading.{Loaded, read-says}
+use Rattle.checks.proofs.Asks.{first-passed}
 
 module _ (f : List ℕ) (cabinet line : ℕ) (catalogue : List ℕ) where
   -- All is known of the file that is known of one that was read, with room for its own words.
@@ -17,8 +17,3 @@ module _ (f : List ℕ) (cabinet line : ℕ) (catalogue : List ℕ) where
       read-says f cabinet line catalogue (wordsIn f)
       (first-passed (fileAsks f cabinet line catalogue) (noRoom (wordsIn f) (wordsIn f) ∷ []) e
       ∙ rw (le-ltb (wordsIn f) (wordsIn f) (omega arith)))
-
-  -- And a file that can be read, whatever the room, passes.
-  pub file-done : (room : ℕ) → Loaded f cabinet line catalogue room → firstOf (fileAsks f cabinet line catalogue) ≡ Done
-  file-done room l =
-      first-done (fileAsks f cabinet line catalogue) (noRoom room (wordsIn f) ∷ []) (read-done f cabinet line catalogue room l) .0

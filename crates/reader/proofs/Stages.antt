@@ -19,8 +19,8 @@ use Rattle.paper.specs.declared.Refusal.the-variants.{Short, WrongEdition, Wron
 use Rattle.paper.specs.declared.Outcome.{Outcome}
 use Rattle.paper.specs.declared.Outcome.the-variants.{Done, Refused}
 use Rattle.paper.specs.declared.ReadAnswer.{ReadAnswer}
-use Rattle.paper.proofs.Reading.{done-none}
-use Rattle.laws.proofs.Every.{both}
+use Rattle.paper.proofs.Asks.{done-none}
+use Rattle.paper.proofs.Tests.{both}
 use Rattle.checks.proofs.Asks.{first-passed, first-refused, first-done}
 use Rattle.unpack.specs.Unpack.{Sized}
 use Rattle.unpack.proofs.Words.{words-length}
@@ -30,15 +30,15 @@ use Rattle.reader.specs.Stages.{headAsks, bodyAsks, Unpacked}
 pub head-short : (f : List ℕ) (cabinet line : ℕ) → length f < shortest → Refused Short ≡ firstOf (headAsks f cabinet line)
 head-short f cabinet line h = rw (lt-ltb (length f) shortest h)
 
-pub head-asked : (f : List ℕ) (cabinet line : ℕ) {e k l n m : ℕ} {counts : Bool} {x2 x3 x4 x5 x6 : Outcome}
-    → shortest ≤ length f → e ≡ editionIn f → k ≡ cabinetIn f → l ≡ lineIn f → n ≡ tasksIn f → m ≡ wordsIn f
-    → x6 ≡ cond (not (eqb (length f) (fileLength n m))) (Refused WrongLength) Done
+pub head-asked : (f : List ℕ) (cabinet line : ℕ) {e k l n m size : ℕ} {counts : Bool} {x2 x3 x4 x5 x6 : Outcome}
+    → shortest ≤ length f → e ≡ editionIn f → k ≡ cabinetIn f → l ≡ lineIn f → n ≡ tasksIn f → m ≡ wordsIn f → size ≡ fileLength n m
+    → x6 ≡ cond (not (eqb (length f) size)) (Refused WrongLength) Done
     → counts ≡ countsInRange n m → x5 ≡ cond (not counts) (Refused WrongCounts) x6
     → x4 ≡ cond (not (eqb l line)) (Refused WrongLine) x5
     → x3 ≡ cond (not (eqb k cabinet)) (Refused WrongCabinet) x4
     → x2 ≡ cond (not (eqb e 1)) (Refused WrongEdition) x3
     → x2 ≡ firstOf (headAsks f cabinet line)
-head-asked f cabinet line long e k l n m e6 c e5 e4 e3 e2 = rw (le-ltb (length f) shortest long, e2, e3, e4, e5, c, e6, e, k, l, n, m)
+head-asked f cabinet line long e k l n m s e6 c e5 e4 e3 e2 = rw (le-ltb (length f) shortest long, e2, e3, e4, e5, c, e6, e, k, l, s, n, m)
 
 -- The other asks, of what was unpacked.
 pub body-asked : (f catalogue : List ℕ) (room : ℕ) {n m : ℕ} {rs : List Record} {own : List ℕ} {s p r a g : Bool} {x7 x8 x9 x10 x11 x12 : Outcome}

@@ -17,22 +17,26 @@ use paper::Record;
 use paper::Refusal;
 
 // Asks 1 to 6.
-fn head(file: &[u8], cabinet: u32, line: u16) -> Outcome
-    ensures { λ x. ⌜ x ≡ firstOf (headAsks (now (file .entry)) cabinet line) ⌝ }
+fn head(file: &[u8], cabinet: Cabinet, line: Line) -> Outcome
+    ensures { λ x. ⌜ x ≡ firstOf (headAsks (now (file .entry)) (cabinet .0) (line .0)) ⌝ }
 {
-    if file.len() < 22 {
+    if file.len() < layout::SHORTEST {
         return Outcome::Refused(Refusal::Short);
     }
-    let edition = bits::get(file, 0, 4);
-    let its_cabinet = bits::get(file, 8, 24);
-    let its_line = bits::get(file, 32, 16);
-    let n = bits::get(file, 48, 8) as usize;
-    let m = bits::get(file, 56, 8) as usize;
-    let size = 8 + 12 * n + (20 * m + 7) / 8 + 2;
+    let edition = layout::edition_of(file);
+    let its_cabinet = layout::cabinet_of(file);
+    let its_line = layout::line_of(file);
+    let n = layout::task_count(file);
+    let m = layout::word_count(file);
+    let size = layout::file_length(n, m);
     let length = checks::ask(file.len() != size, Refusal::WrongLength, Outcome::Done);
     let counts = checks::ask(!checks::counts_in_range(n, m), Refusal::WrongCounts, length);
-    let lines = checks::ask(its_line != line as u64, Refusal::WrongLine, counts);
-    let cabinets = checks::ask(its_cabinet != cabinet as u64, Refusal::WrongCabinet, lines);
+    let lines = checks::ask(its_line != line.0 as u64, Refusal::WrongLine, counts);
+    let cabinets = checks::ask(
+        its_cabinet != cabinet.0 as u64,
+        Refusal::WrongCabinet,
+        lines,
+    );
     checks::ask(edition != 1, Refusal::WrongEdition, cabinets)
 }
 
@@ -49,7 +53,7 @@ fn body(
     requires { ⌜ Unpacked (now file) n m rs (now own) ⌝ }
     ensures { λ x. ⌜ x ≡ firstOf (bodyAsks (now (file .entry)) (now (catalogue .entry)) room) ⌝ }
 {
-    let end = file.len() - 2;
+    let end = file.len() - layout::SEAL_BYTES;
     let no_room = checks::ask(room < m, Refusal::NoRoom, Outcome::Done);
     let regions = checks::ask(
         !checks::all_regions_hold(rs, n, own, catalogue),
@@ -103,8 +107,8 @@ fn rest(file: &[u8], catalogue: &[u32], out: &mut [u32]) -> ReadAnswer
     ensures { λ r. ⌜ r ≡ tableFor (firstOf (bodyAsks (now (file .entry)) (now (catalogue .entry)) (length (now (out .entry))))) (now (file .entry)) ⌝ }
     ensures { λ _. ⌜ now (out .exit) ≡ wordsFor (firstOf (bodyAsks (now (file .entry)) (now (catalogue .entry)) (length (now (out .entry))))) (now (file .entry)) (now (out .entry)) ⌝ }
 {
-    let n = bits::get(file, 48, 8) as usize;
-    let m = bits::get(file, 56, 8) as usize;
+    let n = layout::task_count(file);
+    let m = layout::word_count(file);
     let t = unpack::table_in(file, n);
     let rs = t.records;
     let ws = unpack::words_in(file, n, m);
@@ -134,7 +138,7 @@ pub fn read(
     ensures { λ r. ⌜ r ≡ readAnswer (now (file .entry)) (cabinet .0) (line .0) (now (catalogue .entry)) (now (out .entry)) ⌝ }
     ensures { λ _. ⌜ now (out .exit) ≡ readOut (now (file .entry)) (cabinet .0) (line .0) (now (catalogue .entry)) (now (out .entry)) ⌝ }
 {
-    let outcome = head(file, cabinet.0, line.0);
+    let outcome = head(file, cabinet, line);
     match outcome {
         Outcome::Refused(r) => refused(r),
         Outcome::Done => rest(file, catalogue, out),
@@ -142,10 +146,10 @@ pub fn read(
 }
 
 // Asks 1 to 11. There is room for the words of any file here, so that 12 is never the answer.
-pub fn file_outcome(file: &[u8], cabinet: u32, line: u16, catalogue: &[u32]) -> Outcome
-    ensures { λ x. ⌜ x ≡ firstOf (fileAsks (now (file .entry)) cabinet line (now (catalogue .entry))) ⌝ }
+pub fn file_outcome(file: &[u8], cabinet: Cabinet, line: Line, catalogue: &[u32]) -> Outcome
+    ensures { λ x. ⌜ x ≡ firstOf (fileAsks (now (file .entry)) (cabinet .0) (line .0) (now (catalogue .entry))) ⌝ }
 {
-    let mut room = [0u32; 100];
-    let answer = read(file, Cabinet(cabinet), Line(line), catalogue, &mut room);
+    let mut room = [0u32; paper::MOST_WORDS];
+    let answer = read(file, cabinet, line, catalogue, &mut room);
     answer.outcome
 }

@@ -1,25 +1,23 @@
 -- The answer of a table's columns is that of the table.
 use Prim.Native.Nat.{ℕ, _-_, _<_}
-use mathlib.Core.Path.{_≡_, refl, ap, sym, _∙_}
+use mathlib.Core.Path.{_≡_, ap, sym, _∙_}
 use mathlib.Core.List.{List, _++_}
 use lib.ListN.{length, replicate}
-use Rattle.paper.specs.Numbers.{mostTasks, eight, assigned}
-use Rattle.paper.specs.Analysis.{Tasks, tasksOf, standing, response}
+use Rattle.paper.specs.Numbers.{mostTasks, eight}
+use Rattle.paper.specs.Analysis.{tasksOf, standing, response}
 use Rattle.paper.specs.Refusals.{firstOf, timesAsks}
 use Rattle.paper.specs.Answers.{noTime, timeOf, timesFor, timesAnswer}
-use Rattle.paper.specs.declared.Record.{Record}
 use Rattle.paper.specs.declared.Response.{Response}
 use Rattle.paper.specs.declared.Table.{Table}
-use Rattle.paper.specs.declared.TimesAnswer.{TimesAnswer}
 use Rattle.paper.specs.declared.Outcome.the-variants.{Done, Refused}
 use Rattle.paper.specs.declared.Refusal.{Refusal}
 use Rattle.laws.proofs.Lists.{list-same}
-use Rattle.columns.specs.Columns.{columnOf, tasksBy, assignedBy}
+use Rattle.columns.specs.Columns.{columnOf, assignedBy}
 use Rattle.columns.specs.declared.Column.the-variants.{Cost, Period, Deadline, Priority, Threshold}
 use Rattle.columns.proofs.Fair.{tasks-by, assigned-by}
 use Rattle.checks.proofs.Meaning.{times-done, times-fair}
 use Rattle.climb.specs.Work.{Ready}
-use Rattle.response.specs.Stands.{responseBy, answerBy}
+use Rattle.response.specs.Stands.{answerBy}
 use Rattle.response.proofs.Verdicts.{ready, response-is}
 
 module _ (t : Table) (size : length (t .records) ≡ mostTasks) where

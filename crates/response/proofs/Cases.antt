@@ -1,21 +1,19 @@
 -- L, S and F are each the solution of such an equation, and each may be climbed to from where the code starts.
-use Prim.Native.Nat.{ℕ, zero, suc, _+_, _-_, _*_, _≤_, _<_, zero-le}
-use mathlib.Core.Path.{_≡_, refl, ap, sym, _∙_, fun-ext}
+use Prim.Native.Nat.{ℕ, _+_, _-_, _*_, _≤_, _<_, zero-le}
+use mathlib.Core.Path.{_≡_, ap, sym, _∙_, fun-ext}
 use mathlib.Core.Bool.{Bool, true, false, cond}
 use mathlib.Core.List.{List}
-use native.Mathlib.Decide.{decLe}
 use native.Mathlib.Omega.{arith}
 use native.Mathlib.Numerals.{add-one}
-use native.Mathlib.Nat.{le-refl, le-trans, mul-le-mul, add-mul, one-mul}
-use borrow.Author.Tests.{le-leb, eqb-true, ne-eqb}
+use native.Mathlib.Nat.{le-refl, mul-le-mul, add-mul, one-mul}
+use borrow.Author.Tests.{le-leb, eqb-true}
 use lib.Dec.{leb, ltb, eqb, leb·suc-suc}
 use lib.ListN.{getD}
 use Rattle.paper.specs.Numbers.{mostTicks, horizon}
-use Rattle.paper.specs.Analysis.{Tasks, Standing, before, by, started, load, levelSum, levelOf, startSum, startOf, finishSum, finishOf}
-use Rattle.paper.specs.declared.Time.{Time}
-use Rattle.paper.specs.declared.Time.the-variants.{At, Beyond}
-use Rattle.laws.proofs.Least.{Mono, fixed, Under, least-same, least-beyond, least-none, under-skip, under-larger, Taken, taken}
-use Rattle.laws.proofs.Arrivals.{before-le, by-is, before-first, load-same, load-le, load-part, load-less}
+use Rattle.paper.specs.Analysis.{Tasks, before, by, started, load, levelSum, levelOf, startSum, startOf, finishSum, finishOf}
+use Rattle.paper.specs.declared.Time.the-variants.{At}
+use Rattle.laws.proofs.Least.{Mono, fixed, least-same, under-skip, under-larger, taken}
+use Rattle.laws.proofs.Arrivals.{before-le, by-is, before-first, load-same, load-part, load-less}
 use Rattle.climb.specs.Work.{timesBy, Ready, work, side, solution, Rises}
 use Rattle.response.specs.Stands.{standBy, edge, Climbs}
 use Rattle.response.specs.declared.Stand.{Stand}

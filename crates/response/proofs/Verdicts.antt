@@ -1,26 +1,38 @@
 -- From L and the jobs to R, from R to the verdict on a task, and from there to the verdict on an assignment.
 use Prim.Native.Nat.{ℕ, _≤_, _<_}
-use mathlib.Core.Path.{_≡_, refl, ap, ap₂, sym, _∙_}
-use mathlib.Core.Bool.{Bool, true, false}
+use mathlib.Core.Path.{_≡_, refl, ap, sym, _∙_}
+use mathlib.Core.Bool.{true, false}
 use mathlib.Core.List.{List}
+use native.Mathlib.Omega.{arith}
 use native.Mathlib.Nat.{le-trans}
 use lib.ListN.{getD}
 use Rattle.paper.specs.Numbers.{mostTicks, horizon}
-use Rattle.paper.specs.Vocabulary.{every, ceilDiv}
-use Rattle.paper.specs.Analysis.{Tasks, Standing, before, blocking, standing, levelOf, worst, worstFrom, response, within, taskPasses, passes}
+use Rattle.paper.specs.Vocabulary.{ceilDiv}
+use Rattle.paper.specs.Analysis.{before, blocking, standing, levelOf, worst, worstFrom, response, within, taskPasses, passes}
+use Rattle.paper.specs.declared.Time.{Time}
 use Rattle.paper.specs.declared.Time.the-variants.{At, Beyond}
 use Rattle.columns.specs.Columns.{tasksBy, assignedBy, Fair}
-use Rattle.laws.proofs.Every.{every-all, every-fails}
+use Rattle.paper.proofs.Tests.{every-all, every-fails}
 use Rattle.laws.proofs.Agree.{responses-agree}
 use Rattle.laws.proofs.Arrivals.{ceil-bound}
 use Rattle.climb.specs.Work.{timesBy, Ready}
-use Rattle.response.specs.Stands.{standBy, standOf, responseBy}
+use Rattle.response.specs.Stands.{standBy, standOf, countFrom, jobCount, responseBy}
 use Rattle.response.specs.declared.Stand.{Stand}
 use Rattle.response.proofs.Blocks.{blocking-bound}
 use Rattle.response.proofs.Cases.{level-range}
 
 pub ready : (n : ℕ) (cs ts ds ps hs : List ℕ) → Fair n cs ts ds ps hs → Ready n cs ts ps
 ready n cs ts ds ps hs f = record { few = f .few; costs = f .costs; periods = f .periods; priorities = f .priorities }
+
+-- the number of jobs, by L
+module _ (n : ℕ) (cs ts ps : List ℕ) (i : ℕ) (s : Stand) where
+  pub count-at : (v jobs : ℕ) → levelOf (timesBy n cs ts) (standBy ps s) ≡ At v → jobs ≡ ceilDiv v (getD ts i 0) → At jobs ≡ jobCount (timesBy n cs ts) (standBy ps s) i
+  unfolding jobCount countFrom before
+  count-at v jobs h j = rw (h, j)
+
+  pub count-beyond : levelOf (timesBy n cs ts) (standBy ps s) ≡ Beyond → Beyond ≡ jobCount (timesBy n cs ts) (standBy ps s) i
+  unfolding jobCount countFrom
+  count-beyond h = rw h
 
 -- task i, which stands at s
 module _ (n : ℕ) (cs ts ps hs : List ℕ) (r : Ready n cs ts ps) (i : ℕ) (l : i < n) (s : Stand) (e : s ≡ standOf n cs ps hs i) where
@@ -35,19 +47,34 @@ module _ (n : ℕ) (cs ts ps hs : List ℕ) (r : Ready n cs ts ps) (i : ℕ) (l 
   stand-is = rw e
 
   -- no more jobs than ticks
-  pub jobs-bound : (v jobs : ℕ) → levelOf (timesBy n cs ts) (standBy ps s) ≡ At v → jobs ≡ ceilDiv v (getD ts i 0) → jobs ≤ horizon
-  jobs-bound v jobs h j = rw j (le-trans (ceil-bound (getD ts i 0) v (r .periods .above i l)) (level-range n cs ts ps r s v h))
+  pub count-bound : (jobs : ℕ) → jobCount (timesBy n cs ts) (standBy ps s) i ≡ At jobs → jobs ≤ horizon
+  unfolding jobCount countFrom before
+  count-bound jobs h = go (levelOf (timesBy n cs ts) (standBy ps s)) refl h
+    where
+      go : (v : Time) → levelOf (timesBy n cs ts) (standBy ps s) ≡ v → countFrom (timesBy n cs ts) i v ≡ At jobs → jobs ≤ horizon
+      go (At v) f e =
+          let z : ceilDiv v (getD ts i 0) ≡ jobs = cc in
+          rw (← z) (le-trans (ceil-bound (getD ts i 0) v (r .periods .above i l)) (level-range n cs ts ps r s v f))
+      go Beyond f e = let z : _≡_ {A = ℕ} 0 1 = cc in absurd (omega arith)
 
-  pub response-at : (v jobs : ℕ) → levelOf (timesBy n cs ts) (standBy ps s) ≡ At v → jobs ≡ ceilDiv v (getD ts i 0) → worst (timesBy n cs ts) (standBy ps s) i jobs ≡ responseBy n cs ts ps hs i
-  unfolding response worstFrom before
-  response-at v jobs h j = rw (stand-is, h, j)
+  pub response-at : (jobs : ℕ) → jobCount (timesBy n cs ts) (standBy ps s) i ≡ At jobs → worst (timesBy n cs ts) (standBy ps s) i jobs ≡ responseBy n cs ts ps hs i
+  unfolding jobCount countFrom response worstFrom
+  response-at jobs h = rw stand-is (go (levelOf (timesBy n cs ts) (standBy ps s)) h)
+    where
+      go : (v : Time) → countFrom (timesBy n cs ts) i v ≡ At jobs → worst (timesBy n cs ts) (standBy ps s) i jobs ≡ worstFrom (timesBy n cs ts) (standBy ps s) i v
+      go (At v) e = let z : before (timesBy n cs ts) v i ≡ jobs = cc in rw (← z)
+      go Beyond e = let z : _≡_ {A = ℕ} 0 1 = cc in absurd (omega arith)
 
-  pub response-beyond : levelOf (timesBy n cs ts) (standBy ps s) ≡ Beyond → Beyond ≡ responseBy n cs ts ps hs i
-  unfolding response worstFrom
-  response-beyond h = rw (stand-is, h)
+  pub response-beyond : jobCount (timesBy n cs ts) (standBy ps s) i ≡ Beyond → Beyond ≡ responseBy n cs ts ps hs i
+  unfolding jobCount countFrom response worstFrom
+  response-beyond h = rw stand-is (go (levelOf (timesBy n cs ts) (standBy ps s)) h)
+    where
+      go : (v : Time) → countFrom (timesBy n cs ts) i v ≡ Beyond → Beyond ≡ worstFrom (timesBy n cs ts) (standBy ps s) i v
+      go (At v) e = let z : _≡_ {A = ℕ} 0 1 = cc in absurd (omega arith)
+      go Beyond e = refl
 
   -- and then it fails
-  pub beyond-fails : (d : ℕ) → levelOf (timesBy n cs ts) (standBy ps s) ≡ Beyond → false ≡ within (responseBy n cs ts ps hs i) d
+  pub beyond-fails : (d : ℕ) → jobCount (timesBy n cs ts) (standBy ps s) i ≡ Beyond → false ≡ within (responseBy n cs ts ps hs i) d
   unfolding within
   beyond-fails d h = rw (← response-beyond h)
 

@@ -5,7 +5,7 @@ use mathlib.Core.Bool.{cond}
 use mathlib.Core.List.{List, []}
 use lib.Dec.{leb, ltb}
 use lib.ListN.{getD}
-use Rattle.paper.specs.Analysis.{Tasks, Standing, blocking, standing, startOf, finishOf, response}
+use Rattle.paper.specs.Analysis.{Tasks, Standing, before, blocking, standing, levelOf, startOf, finishOf, response}
 use Rattle.paper.specs.declared.Response.{Response}
 use Rattle.paper.specs.declared.Time.{Time}
 use Rattle.paper.specs.declared.Time.the-variants.{At, Beyond}
@@ -48,6 +48,14 @@ spanFrom y s i Beyond = Span.Beyond
 
 unfoldable pub spanOf : Tasks → Standing → ℕ → ℕ → Span
 spanOf y s i k = spanFrom y s i (startOf y s i k)
+
+-- jobs k run from 0 to ceil(L/T(i)) − 1: how many these are
+unfoldable pub countFrom : Tasks → ℕ → Time → Time
+countFrom y i (At l) = At (before y l i)
+countFrom y i Beyond = Beyond
+
+unfoldable pub jobCount : Tasks → Standing → ℕ → Time
+jobCount y s i = countFrom y i (levelOf y s)
 
 -- R of task i, by columns
 abbrev pub responseBy : ℕ → List ℕ → List ℕ → List ℕ → List ℕ → ℕ → Time

@@ -9,26 +9,25 @@ use paper::TimesAnswer;
 ghost use mathlib.Core.Path.{_≡_};
 ghost use mathlib.Core.Bool.{cond, _&&_};
 ghost use mathlib.Core.List.{[]};
-ghost use Prim.Native.Nat.{ℕ, _+_, _-_, _*_, _<_, _≤_, max};
+ghost use Prim.Native.Nat.{_+_, _-_, _*_, _<_, _≤_, max};
 ghost use lib.Dec.{leb, ltb};
 ghost use lib.ListN.{getD, replicate};
-ghost use Rattle.paper.specs.Vocabulary.{ceilDiv};
 ghost use Rattle.paper.specs.Numbers.{mostTasks, mostTicks, horizon, eight};
 ghost use Rattle.paper.specs.Answers.{noTime, timesAnswer};
-ghost use Rattle.paper.specs.Analysis.{blocking, standing, levelOf, startSum, startOf, finishOf, worst, response, within, taskPasses, passes};
+ghost use Rattle.paper.specs.Analysis.{blocking, levelOf, startSum, startOf, finishOf, worst, response, within, passes};
 ghost use Rattle.columns.specs.Columns.{tasksBy, assignedBy, Fair};
 ghost use Rattle.climb.specs.Work.{timesBy, Ready};
-ghost use Rattle.response.specs.Stands.{standBy, standOf, edge, Climbs, spanOf, responseBy, answerBy};
+ghost use Rattle.response.specs.Stands.{standBy, standOf, edge, Climbs, spanOf, jobCount, responseBy, answerBy};
 
 // Where a task stands: its blocking B, priority and threshold.
-pub struct Stand {
-    pub b: u64,
-    pub p: u64,
-    pub h: u64,
+struct Stand {
+    b: u64,
+    p: u64,
+    h: u64,
 }
 
 // When a job runs: its start S and its finish F, or neither at or below the horizon.
-pub enum Span {
+enum Span {
     Ends(u64, u64),
     Beyond,
 }
@@ -46,7 +45,7 @@ fn block_part(own: u64, c: u64, p: u64, h: u64) -> u64
     if (h <= own) & (own < p) { c } else { 0 }
 }
 
-pub fn blocking(n: usize, c: &Numbers, p: &Numbers, h: &Numbers, i: usize) -> u64
+fn blocking(n: usize, c: &Numbers, p: &Numbers, h: &Numbers, i: usize) -> u64
     requires { ⌜ (i < n) × (n ≤ mostTasks) ⌝ }
     ensures { λ r. ⌜ r ≡ blocking (tasksBy n (now (c .entry)) [] []) (assignedBy (now (p .entry)) (now (h .entry))) i ⌝ }
 {
@@ -81,7 +80,7 @@ fn edge(b: u64) -> u64
 }
 
 // L
-pub fn level(n: usize, c: &Numbers, t: &Numbers, p: &Numbers, i: usize, s: Stand) -> Time
+fn level(n: usize, c: &Numbers, t: &Numbers, p: &Numbers, i: usize, s: Stand) -> Time
     requires { ⌜ Ready n (now c) (now t) (now p) × (i < n) × (s .b ≤ mostTicks) × (s .p ≡ getD (now p) i 0) ⌝ }
     ensures { λ r. ⌜ r ≡ levelOf (timesBy n (now (c .entry)) (now (t .entry))) (standBy (now (p .entry)) s) ⌝ }
 {
@@ -95,8 +94,22 @@ pub fn level(n: usize, c: &Numbers, t: &Numbers, p: &Numbers, i: usize, s: Stand
     climb::solve(n, c, t, p, e, 1)
 }
 
+// How many jobs the active period has: those asked for before L.
+fn job_count(n: usize, c: &Numbers, t: &Numbers, p: &Numbers, i: usize, s: Stand) -> Time
+    requires { ⌜ Ready n (now c) (now t) (now p) × (i < n) × (s .b ≤ mostTicks) × (s .p ≡ getD (now p) i 0) ⌝ }
+    ensures { λ r. ⌜ r ≡ jobCount (timesBy n (now (c .entry)) (now (t .entry))) (standBy (now (p .entry)) s) i ⌝ }
+{
+    let l = level(n, c, t, p, i, s);
+    let Time::At(v) = l else {
+        return Time::Beyond;
+    };
+    let period = t[i];
+    let many = climb::arrived(v, period);
+    Time::At(many)
+}
+
 // S of job k, which is known to be at least `from`.
-pub fn start(
+fn start(
     n: usize,
     c: &Numbers,
     t: &Numbers,
@@ -123,7 +136,7 @@ pub fn start(
 }
 
 // F of a job that starts at `begun`.
-pub fn finish(n: usize, c: &Numbers, t: &Numbers, p: &Numbers, i: usize, s: Stand, begun: u64) -> Time
+fn finish(n: usize, c: &Numbers, t: &Numbers, p: &Numbers, i: usize, s: Stand, begun: u64) -> Time
     requires { ⌜ Ready n (now c) (now t) (now p) × (i < n) × (begun ≤ horizon) ⌝ }
     ensures { λ r. ⌜ r ≡ finishOf (timesBy n (now (c .entry)) (now (t .entry))) (standBy (now (p .entry)) s) i begun ⌝ }
 {
@@ -140,7 +153,7 @@ pub fn finish(n: usize, c: &Numbers, t: &Numbers, p: &Numbers, i: usize, s: Stan
     climb::solve(n, c, t, p, e, begun + 1)
 }
 
-pub fn job(
+fn job(
     n: usize,
     c: &Numbers,
     t: &Numbers,
@@ -173,7 +186,7 @@ fn less(f: u64, r: u64) -> u64
 }
 
 // The largest F - k T of the jobs below `jobs`.
-pub fn worst(n: usize, c: &Numbers, t: &Numbers, p: &Numbers, i: usize, s: Stand, jobs: u64) -> Time
+fn worst(n: usize, c: &Numbers, t: &Numbers, p: &Numbers, i: usize, s: Stand, jobs: u64) -> Time
     requires { ⌜ Ready n (now c) (now t) (now p) × (i < n) × (s .b ≤ mostTicks) × (jobs ≤ horizon) ⌝ }
     ensures { λ r. ⌜ r ≡ worst (timesBy n (now (c .entry)) (now (t .entry))) (standBy (now (p .entry)) s) i jobs ⌝ }
 {
@@ -195,7 +208,7 @@ pub fn worst(n: usize, c: &Numbers, t: &Numbers, p: &Numbers, i: usize, s: Stand
 }
 
 // Whether each job below `jobs` ends by its deadline: F <= k T + D. Stops at the first that doesn't.
-pub fn in_time(
+fn in_time(
     n: usize,
     c: &Numbers,
     t: &Numbers,
@@ -227,17 +240,15 @@ pub fn in_time(
 }
 
 // R of task i, or beyond.
-pub fn response(n: usize, c: &Numbers, t: &Numbers, p: &Numbers, h: &Numbers, i: usize) -> Time
+fn response(n: usize, c: &Numbers, t: &Numbers, p: &Numbers, h: &Numbers, i: usize) -> Time
     requires { ⌜ Ready n (now c) (now t) (now p) × (i < n) ⌝ }
     ensures { λ r. ⌜ r ≡ responseBy n (now (c .entry)) (now (t .entry)) (now (p .entry)) (now (h .entry)) i ⌝ }
 {
     let s = stand_of(n, c, p, h, i);
-    let l = level(n, c, t, p, i, s);
-    let Time::At(v) = l else {
+    let count = job_count(n, c, t, p, i, s);
+    let Time::At(jobs) = count else {
         return Time::Beyond;
     };
-    let period = t[i];
-    let jobs = climb::arrived(v, period);
     worst(n, c, t, p, i, s, jobs)
 }
 
@@ -255,12 +266,10 @@ fn task_passes(
     ensures { λ r. ⌜ r ≡ within (responseBy n (now (c .entry)) (now (t .entry)) (now (p .entry)) (now (h .entry)) i) (getD (now (d .entry)) i 0) ⌝ }
 {
     let s = stand_of(n, c, p, h, i);
-    let l = level(n, c, t, p, i, s);
-    let Time::At(v) = l else {
+    let count = job_count(n, c, t, p, i, s);
+    let Time::At(jobs) = count else {
         return false;
     };
-    let period = t[i];
-    let jobs = climb::arrived(v, period);
     let deadline = d[i];
     in_time(n, c, t, p, i, s, deadline, jobs)
 }

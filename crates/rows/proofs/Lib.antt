@@ -1,3 +1,4 @@
 pub mod Copies
 pub mod Places
 pub mod Columns
+pub mod Exhausted

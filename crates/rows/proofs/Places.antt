@@ -15,7 +15,8 @@ use Rattle.paper.specs.Vocabulary.{every}
 use Rattle.paper.specs.Numbers.{eachOnce, thresholdsHold}
 use Rattle.paper.specs.Rows.{rowSize, placeOf, rowAssignment, rowHolds}
 use Rattle.laws.specs.Order.{Within}
-use Rattle.laws.proofs.Every.{both, every-says, every-same}
+use Rattle.paper.proofs.Tests.{both, every-says}
+use Rattle.laws.proofs.Every.{every-same}
 use Rattle.laws.proofs.Order.{within-all}
 use Rattle.columns.proofs.Fair.{each-once-range, threshold-range}
 use Rattle.rows.specs.Places.{freshAt, fitsAt}

@@ -1,7 +1,7 @@
 -- A signed number's absolute value as the machine computes it: below zero, one is added before the sign is turned, and again
 -- after it. A signed number is kept as its bits, and read back from them at each step.
-use Prim.Native.Nat.{ℕ, zero, suc, _+_, _<_, _≤_, _^_, zero-le}
-use mathlib.Core.Path.{_≡_, refl, sym, ap, _∙_, subst}
+use Prim.Native.Nat.{ℕ, zero, suc, _+_, _≤_, zero-le}
+use mathlib.Core.Path.{_≡_, refl, sym, ap, _∙_}
 use mathlib.Core.Bool.{true, false}
 use native.Mathlib.Numerals.{add-one}
 use native.Mathlib.Omega.{arith}

@@ -14,7 +14,7 @@ use Rattle.paper.specs.Seal.{generator, sealBit, sealBits, sealByte, sealFrom, 
 use Rattle.paper.specs.File.{sealed, putSeal}
 use Rattle.bits.specs.Fields.{Bytes}
 use Rattle.bits.proofs.Field.{SameBits, field-bits}
-use Rattle.bits.proofs.Putting.{put-length, put-bytes, put-bit-other, put-other, put-take, put-got}
+use Rattle.bits.proofs.Putting.{put-length, put-bytes, put-bit-other, put-take, put-got}
 use Rattle.bits.proofs.Same.{same-bytes, take-bytes, take-same}
 
 bit-lt : (c : ℕ) → c < 2 ^ 16 → sealBit c < 2 ^ 16
@@ -50,10 +50,6 @@ seal-bytes f end h = put-bytes f (end * 8) 16 (sealOf (take end f)) h
 pub seal-bit-other : (f : List ℕ) (end q : ℕ) → (q < end * 8) ⊎ (end * 8 + 16 ≤ q) → bitAt (putSeal f end) q ≡ bitAt f q
 unfolding putSeal
 seal-bit-other f end q o = put-bit-other f (end * 8) 16 (sealOf (take end f)) q o
-
-pub seal-other : (f : List ℕ) (end at w : ℕ) → (at + w ≤ end * 8) ⊎ (end * 8 + 16 ≤ at) → field (putSeal f end) at w ≡ field f at w
-unfolding putSeal
-seal-other f end at w o = put-other f (end * 8) 16 (sealOf (take end f)) at w o
 
 -- what was put is sealed
 pub seal-holds : (f : List ℕ) (end : ℕ) → Bytes f → end + 2 ≤ length f → sealed (putSeal f end) end ≡ true

@@ -8,14 +8,12 @@ ghost use lib.ListN.{length};
 ghost use Rattle.io.specs.Counts.{Counts};
 use paper::Cabinet;
 use paper::Line;
+use paper::MOST_WORDS;
 use paper::Outcome;
 use paper::Refusal;
 use paper::Table;
 
 const PLATE_BYTES: usize = 5;
-
-// Where a plate and a file have the number of region words.
-const WORDS_AT: usize = PLATE_BYTES + 7;
 
 fn put_plate(buf: &mut [u8], cabinet: Cabinet, line: Line) -> usize
     ensures { λ r. ⌜ r ≤ length (now (buf .entry)) ⌝ }
@@ -56,14 +54,14 @@ fn put_file<'a>(
     let line = request::plate_line(input);
     let plated = put_plate(buf, cabinet, line);
     let catalogue: [u32; 0] = [];
-    let mut words = [0u32; 100];
+    let mut words = [0u32; MOST_WORDS];
     let answer = reader::read(&input[PLATE_BYTES..], cabinet, line, &catalogue, &mut words);
     let outcome = answer.outcome;
     match outcome {
         Outcome::Refused(r) => put_refused(buf, plated, r),
         Outcome::Done => {
             let t = answer.table;
-            let m = fronts::of_words(&words, request::byte_at(input, WORDS_AT) as usize);
+            let m = fronts::of_words(&words, answer.words);
             let start = put_jobs(buf, plated, t);
             show_sheet::put_sheet(
                 buf,

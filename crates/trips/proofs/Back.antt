@@ -14,7 +14,7 @@ use Rattle.paper.specs.File.{headWidths, headValues, recordIn, recordAt, spareC
 use Rattle.paper.specs.Answers.{readOutcome}
 use Rattle.paper.specs.declared.Outcome.the-variants.{Done}
 use Rattle.paper.specs.declared.Table.{Table}
-use Rattle.laws.proofs.Every.{every-all}
+use Rattle.paper.proofs.Tests.{every-all}
 use Rattle.laws.proofs.Lists.{list-same}
 use Rattle.bits.specs.Fields.{fieldsAt}
 use Rattle.trips.proofs.One.{IsFile}

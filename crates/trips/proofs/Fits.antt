@@ -18,7 +18,7 @@ use Rattle.paper.specs.declared.Source.{Source}
 use Rattle.paper.specs.declared.Source.the-variants.{Own, Catalogue}
 use Rattle.paper.specs.declared.Record.{Record}
 use Rattle.paper.specs.declared.Table.{Table}
-use Rattle.laws.proofs.Every.{both, within, every-says}
+use Rattle.paper.proofs.Tests.{both, within, every-says}
 use Rattle.bits.specs.Fields.{AllFit}
 use Rattle.paper.proofs.Writing.{Taken}
 use Rattle.trips.proofs.Made.{Fits}

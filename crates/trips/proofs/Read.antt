@@ -13,7 +13,7 @@ use Rattle.paper.specs.File.{recordWidths, recordValues, sourceBit, sourceOf, r
 use Rattle.paper.specs.declared.Source.{Source}
 use Rattle.paper.specs.declared.Source.the-variants.{Own, Catalogue}
 use Rattle.paper.specs.declared.Record.{Record}
-use Rattle.laws.proofs.Every.{both, every-says}
+use Rattle.paper.proofs.Tests.{both, every-says}
 use Rattle.laws.proofs.Lists.{list-length, list-at, eight-at}
 use Rattle.bits.specs.Fields.{fieldsAt, Bytes}
 use Rattle.bits.proofs.Field.{field-lt}

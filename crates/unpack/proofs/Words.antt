@@ -1,23 +1,19 @@
 -- The region words of a file, and the array that they come in.
-use mathlib.Core.Path.{_≡_, refl, sym, ap, _∙_}
-use mathlib.Core.List.{List, _++_}
-use Prim.Native.Nat.{ℕ, _+_, _-_, _≤_, _<_}
-use lib.ListN.{length, getD, set, take, replicate}
+use mathlib.Core.Path.{_≡_, refl, sym}
+use mathlib.Core.List.{List}
+use Prim.Native.Nat.{ℕ, _+_, _-_, _<_}
+use lib.ListN.{length, set, take, replicate}
 use lib.Seq.{take-at}
 use Rattle.paper.specs.Vocabulary.{listTo}
 use Rattle.paper.specs.Numbers.{mostWords}
 use Rattle.paper.specs.Bits.{field}
 use Rattle.paper.specs.File.{wordAt, regionWords}
-use Rattle.laws.proofs.Lists.{list-length, list-at, fill-more}
+use Rattle.laws.proofs.Lists.{list-length, fill-more}
 use Rattle.unpack.specs.Unpack.{wordsArray}
 
 pub words-length : (f : List ℕ) (n m : ℕ) → length (regionWords f n m) ≡ m
 unfolding regionWords
 words-length f n m = list-length m (λ k. field f (wordAt n k) 20)
-
-pub word-in : (f : List ℕ) (n m k : ℕ) → k < m → getD (regionWords f n m) k 0 ≡ field f (wordAt n k) 20
-unfolding regionWords
-word-in f n m k h = list-at m (λ k. field f (wordAt n k) 20) 0 k h
 
 -- the turns of the loop that fills the array
 pub array-none : (f : List ℕ) (n : ℕ) → replicate mostWords 0 ≡ wordsArray f n 0

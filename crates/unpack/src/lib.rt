@@ -54,7 +54,7 @@ pub fn record_in(f: &[u8], k: usize) -> Record
     requires { ⌜ Holds (now f) (k + 1) ⌝ }
     ensures { λ r. ⌜ r ≡ recordIn (now (f .entry)) k ⌝ }
 {
-    let at = 64 + 96 * k;
+    let at = layout::HEAD_BITS + layout::RECORD_BITS * k;
     let cost = bits::get(f, at, 20) as u32;
     let period = bits::get(f, at + 20, 20) as u32;
     let deadline = bits::get(f, at + 40, 20) as u32;
@@ -93,14 +93,18 @@ pub fn table_in(f: &[u8], n: usize) -> Table
 }
 
 // The m region words after n records, at the front of an array of zeros.
-pub fn words_in(f: &[u8], n: usize, m: usize) -> [u32; 100]
+pub fn words_in(f: &[u8], n: usize, m: usize) -> [u32; paper::MOST_WORDS]
     requires { ⌜ Sized (now f) n m ⌝ }
     ensures { λ r. ⌜ r ≡ wordsArray (now (f .entry)) n m ⌝ }
 {
-    let mut words = [0u32; 100];
+    let mut words = [0u32; paper::MOST_WORDS];
     let mut k: usize = 0;
     while k < m {
-        words[k] = bits::get(f, 64 + 96 * n + 20 * k, 20) as u32;
+        words[k] = bits::get(
+            f,
+            layout::HEAD_BITS + layout::RECORD_BITS * n + layout::WORD_BITS * k,
+            layout::WORD_BITS,
+        ) as u32;
         k += 1;
     }
     words
@@ -113,7 +117,7 @@ fn records_spare_clear(f: &[u8], n: usize) -> bool
     let mut ok = true;
     let mut k: usize = 0;
     while k < n {
-        ok = ok & (bits::get(f, 64 + 96 * k + 90, 6) == 0);
+        ok = ok & (bits::get(f, layout::HEAD_BITS + layout::RECORD_BITS * k + 90, 6) == 0);
         k += 1;
     }
     ok
@@ -126,6 +130,10 @@ pub fn spare_clear(f: &[u8], n: usize, m: usize) -> bool
 {
     let head = bits::get(f, 4, 4);
     let records = records_spare_clear(f, n);
-    let filler = bits::get(f, 64 + 96 * n + 20 * m, (20 * m + 7) / 8 * 8 - 20 * m);
+    let filler = bits::get(
+        f,
+        layout::HEAD_BITS + layout::RECORD_BITS * n + layout::WORD_BITS * m,
+        (layout::WORD_BITS * m + 7) / 8 * 8 - layout::WORD_BITS * m,
+    );
     (head == 0) & (records & (filler == 0))
 }

@@ -14,7 +14,7 @@ use Rattle.paper.specs.declared.Outcome.{Outcome}
 use Rattle.paper.specs.declared.Outcome.the-variants.{Done, Refused}
 use Rattle.paper.specs.declared.WriteAnswer.the-variants as Write
 use Rattle.paper.specs.declared.Table.{Table}
-use Rattle.laws.proofs.Every.{both}
+use Rattle.paper.proofs.Tests.{both}
 use Rattle.checks.proofs.Meaning.{few}
 
 pub record Counts (n m : ℕ) : Type 0 where

@@ -1,6 +1,6 @@
 // Writing a cabinet file.
 ghost use mathlib.Core.Path.{_≡_};
-ghost use Prim.Native.Nat.{_+_, _<_, _≤_};
+ghost use Prim.Native.Nat.{_<_, _≤_};
 ghost use lib.ListN.{length};
 ghost use Rattle.paper.specs.Numbers.{mostTasks, mostWords};
 ghost use Rattle.paper.specs.File.{fileLength, fileOf};
@@ -12,22 +12,15 @@ use paper::Refusal;
 use paper::Table;
 use paper::WriteAnswer;
 
-fn file_length(n: usize, m: usize) -> usize
-    requires { ⌜ (n ≤ mostTasks) × (m ≤ mostWords) ⌝ }
-    ensures { λ r. ⌜ r ≡ fileLength n m ⌝ }
-{
-    8 + 12 * n + (20 * m + 7) / 8 + 2
-}
-
 // Makes s, which has the file's length, the file.
-fn put_file(s: &mut [u8], t: Table, cabinet: u32, line: u16, own: &[u32])
+fn put_file(s: &mut [u8], t: Table, cabinet: Cabinet, line: Line, own: &[u32])
     requires { ⌜ (t .n ≤ mostTasks) × (length (now own) ≤ mostWords) × (length (now s) ≡ fileLength (t .n) (length (now own))) ⌝ }
-    ensures { λ _. ⌜ now (s .exit) ≡ fileOf t cabinet line (now (own .entry)) ⌝ }
+    ensures { λ _. ⌜ now (s .exit) ≡ fileOf t (cabinet .0) (line .0) (now (own .entry)) ⌝ }
 {
     let n = t.n;
     let rs = t.records;
     let m = own.len();
-    let end = s.len() - 2;
+    let end = s.len() - layout::SEAL_BYTES;
     pack::put_head(s, cabinet, line, n, m);
     pack::put_records(s, rs, n);
     pack::put_words(s, n, own);
@@ -35,8 +28,8 @@ fn put_file(s: &mut [u8], t: Table, cabinet: u32, line: u16, own: &[u32])
 }
 
 // What writing asks. Wrong counts end it: the other checks look at n records and m words.
-fn outcome_of(t: Table, cabinet: u32, own: &[u32], catalogue: &[u32], room: usize) -> Outcome
-    ensures { λ x. ⌜ x ≡ writeOutcome t cabinet (now (own .entry)) (now (catalogue .entry)) room ⌝ }
+fn outcome_of(t: Table, cabinet: Cabinet, own: &[u32], catalogue: &[u32], room: usize) -> Outcome
+    ensures { λ x. ⌜ x ≡ writeOutcome t (cabinet .0) (now (own .entry)) (now (catalogue .entry)) room ⌝ }
 {
     let n = t.n;
     let rs = t.records;
@@ -44,7 +37,11 @@ fn outcome_of(t: Table, cabinet: u32, own: &[u32], catalogue: &[u32], room: usiz
     if !checks::counts_in_range(n, m) {
         return Outcome::Refused(Refusal::WrongCounts);
     }
-    let no_room = checks::ask(room < file_length(n, m), Refusal::NoRoom, Outcome::Done);
+    let no_room = checks::ask(
+        room < layout::file_length(n, m),
+        Refusal::NoRoom,
+        Outcome::Done,
+    );
     let regions = checks::ask(
         !checks::all_regions_hold(rs, n, own, catalogue),
         Refusal::BadRegions,
@@ -55,7 +52,7 @@ fn outcome_of(t: Table, cabinet: u32, own: &[u32], catalogue: &[u32], room: usiz
         Refusal::BadAssignment,
         regions,
     );
-    let in_range = (cabinet <= 0xff_ffff) & checks::records_in_range(rs, n);
+    let in_range = (cabinet.0 <= paper::MOST_CABINET) & checks::records_in_range(rs, n);
     checks::ask(!in_range, Refusal::OutOfRange, assignment)
 }
 
@@ -72,13 +69,13 @@ pub fn write(
     ensures { λ _. ⌜ now (out .exit) ≡ writeOut t (cabinet .0) (line .0) (now (own .entry)) (now (catalogue .entry)) (now (out .entry)) ⌝ }
 {
     let room = out.len();
-    let outcome = outcome_of(t, cabinet.0, own, catalogue, room);
+    let outcome = outcome_of(t, cabinet, own, catalogue, room);
     match outcome {
         Outcome::Refused(r) => WriteAnswer::Refused(r),
         Outcome::Done => {
             let n = t.n;
-            let size = file_length(n, own.len());
-            put_file(&mut out[..size], t, cabinet.0, line.0, own);
+            let size = layout::file_length(n, own.len());
+            put_file(&mut out[..size], t, cabinet, line, own);
             WriteAnswer::File(size)
         }
     }

@@ -1,7 +1,7 @@
 -- The tests of the columns are the row's. `made` is the place where the columns are there, `held` where their two tests are.
 use mathlib.Core.Path.{sym, _∙_}
 use borrow.Author.Needs.{needs}
-use Rattle.laws.proofs.Every.{both}
+use Rattle.paper.proofs.Tests.{both}
 use Rattle.listing.proofs.Tested.{row-fair, row-tested, row-untested}
 use Rattle.listing.proofs.row_passes.Statement.{statement}
 use Rattle.listing.proofs.row_passes.Tie as tie

@@ -7,6 +7,12 @@ use Rattle.pack.proofs.put_head.Tie as tie
 clear-requires : tie.Need-clear-requires
 clear-requires c κs = search needs
 
+cast-t11 : tie.Need-cast-t11
+cast-t11 c = search needs
+
+cast-t12 : tie.Need-cast-t12
+cast-t12 c = search needs
+
 slice-aggregate-put-all : tie.Need-slice-aggregate-put-all
 slice-aggregate-put-all c = search needs
 
@@ -23,7 +29,7 @@ returns : tie.Need-returns
 unfolding putHead
 returns c =
     let b = c .before .before in
-    let a = b .before .before .before .before .before .before in
+    let a = b .before .before .before .before .before .before .before .before in
     rw (b .put-all .ensures, a .clear .ensures, a .before .before .before .pre .2)
 
 pub put-head-spec : {M : Type 1} → statement M
@@ -31,6 +37,8 @@ put-head-spec =
     tie.close
     (tie.spec
     clear-requires
+    cast-t11
+    cast-t12
     slice-aggregate-put-all
     slice-aggregate-put-all-2
     put-all-requires

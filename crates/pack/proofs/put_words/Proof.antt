@@ -20,26 +20,26 @@ same-length c = search needs
 returns : tie.Need-returns
 returns c = words-done _ _ _ _ _ (c .before .before .before .put-pairs .ensures) (omega arith)
 
+mul-at : tie.Need-mul-at
+mul-at c = search needs
+
+add-at : tie.Need-add-at
+add-at c = search needs
+
+mul-at-2 : tie.Need-mul-at-2
+mul-at-2 c = search needs
+
+mul-at-3 : tie.Need-mul-at-3
+mul-at-3 c = search needs
+
+add-at-2 : tie.Need-add-at-2
+add-at-2 c = search needs
+
 mul-put : tie.Need-mul-put
 mul-put c = search needs
 
-add-put : tie.Need-add-put
-add-put c = search needs
-
 mul-put-2 : tie.Need-mul-put-2
 mul-put-2 c = search needs
-
-mul-put-3 : tie.Need-mul-put-3
-mul-put-3 c = search needs
-
-add-put-2 : tie.Need-add-put-2
-add-put-2 c = search needs
-
-mul-put-4 : tie.Need-mul-put-4
-mul-put-4 c = search needs
-
-mul-put-5 : tie.Need-mul-put-5
-mul-put-5 c = search needs
 
 shared-slice-read-put : tie.Need-shared-slice-read-put
 shared-slice-read-put c = search needs
@@ -71,13 +71,13 @@ put-words-spec =
     mul-if1
     same-length
     returns
+    mul-at
+    add-at
+    mul-at-2
+    mul-at-3
+    add-at-2
     mul-put
-    add-put
     mul-put-2
-    mul-put-3
-    add-put-2
-    mul-put-4
-    mul-put-5
     shared-slice-read-put
     cast-put
     put-requires

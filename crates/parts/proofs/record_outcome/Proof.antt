@@ -17,8 +17,8 @@ enum-known-outcome c = search needs
 enum-told : tie.Need-enum-told
 enum-told c = search needs
 
-get-requires : tie.Need-get-requires
-get-requires c κs =
+task-count-requires : tie.Need-task-count-requires
+task-count-requires c κs =
     let o = c .before .before in
     let a = o .before .before .before .args in
     let long = file-says (now (a .file)) (a .cabinet .0) (a .line .0) (now (a .catalogue)) (sym (o .file-outcome .ensures) ∙ c .enum-told .given .1) .long in
@@ -41,7 +41,7 @@ returns-2 c =
     let o = c .before .before .before .before .before in
     let a = o .before .before .before .args in
     number-asked (now (a .file)) (a .cabinet .0) (a .line .0) (now (a .catalogue)) (a .number) _ _ _
-    (sym (c .before .before .before .enum-told .given .1) ∙ o .file-outcome .ensures) (c .before .before .get .ensures .0) (c .before .is-record .ensures) (c .ask .ensures)
+    (sym (c .before .before .before .enum-told .given .1) ∙ o .file-outcome .ensures) (c .before .before .task-count .ensures .0) (c .before .is-record .ensures) (c .ask .ensures)
 
 pub record-outcome-spec : {M : Type 1} → statement M
 record-outcome-spec =
@@ -50,7 +50,7 @@ record-outcome-spec =
     file-outcome-requires
     enum-known-outcome
     enum-told
-    get-requires
+    task-count-requires
     is-record-requires
     ask-requires
     returns

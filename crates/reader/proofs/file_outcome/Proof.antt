@@ -17,7 +17,7 @@ read-requires c κs = search needs
 returns : tie.Need-returns
 returns c =
     let a = c .before .before .before .before .before .args in
-    outcome-read (now (a .file)) (a .cabinet) (a .line) (now (a .catalogue)) (replicate mostWords 0) (c .before .read .ensures .0) (omega arith)
+    outcome-read (now (a .file)) (a .cabinet .0) (a .line .0) (now (a .catalogue)) (replicate mostWords 0) (c .before .read .ensures .0) (omega arith)
 
 pub file-outcome-spec : {M : Type 1} → statement M
 file-outcome-spec = tie.close (tie.spec slice-aggregate-read read-requires returns)

@@ -8,40 +8,25 @@ use Rattle.reader.proofs.head.Tie as tie
 returns : tie.Need-returns
 returns c =
     let a = c .before .before .args in
-    head-short (now (a .file)) (a .cabinet) (a .line) (c .if1 .taken)
+    head-short (now (a .file)) (a .cabinet .0) (a .line .0) (c .if1 .taken)
 
-get-requires : tie.Need-get-requires
-get-requires c κs = search needs
+edition-of-requires : tie.Need-edition-of-requires
+edition-of-requires c κs = search needs
 
-get-requires-2 : tie.Need-get-requires-2
-get-requires-2 c κs = search needs
+cabinet-of-requires : tie.Need-cabinet-of-requires
+cabinet-of-requires c κs = search needs
 
-get-requires-3 : tie.Need-get-requires-3
-get-requires-3 c κs = search needs
+line-of-requires : tie.Need-line-of-requires
+line-of-requires c κs = search needs
 
-get-requires-4 : tie.Need-get-requires-4
-get-requires-4 c κs = search needs
+task-count-requires : tie.Need-task-count-requires
+task-count-requires c κs = search needs
 
-get-requires-5 : tie.Need-get-requires-5
-get-requires-5 c κs = search needs
+word-count-requires : tie.Need-word-count-requires
+word-count-requires c κs = search needs
 
-mul-size : tie.Need-mul-size
-mul-size c = search needs
-
-add-size : tie.Need-add-size
-add-size c = search needs
-
-mul-size-2 : tie.Need-mul-size-2
-mul-size-2 c = search needs
-
-add-size-2 : tie.Need-add-size-2
-add-size-2 c = search needs
-
-add-size-3 : tie.Need-add-size-3
-add-size-3 c = search needs
-
-add-size-4 : tie.Need-add-size-4
-add-size-4 c = search needs
+file-length-requires : tie.Need-file-length-requires
+file-length-requires c κs = search needs
 
 ask-requires : tie.Need-ask-requires
 ask-requires c κs = search needs
@@ -52,8 +37,14 @@ counts-in-range-requires c κs = search needs
 ask-requires-2 : tie.Need-ask-requires-2
 ask-requires-2 c κs = search needs
 
+cast-ask : tie.Need-cast-ask
+cast-ask c = search needs
+
 ask-requires-3 : tie.Need-ask-requires-3
 ask-requires-3 c κs = search needs
+
+cast-ask-2 : tie.Need-cast-ask-2
+cast-ask-2 c = search needs
 
 ask-requires-4 : tie.Need-ask-requires-4
 ask-requires-4 c κs = search needs
@@ -63,20 +54,26 @@ ask-requires-5 c κs = search needs
 
 returns-2 : tie.Need-returns-2
 returns-2 c =
-    let asks = c .before .before .before in
-    let fields = asks .before .before .before in
-    let first = fields .before .before .before .before in
-    let a = first .before .before .before .args in
-    head-asked (now (a .file)) (a .cabinet) (a .line) (first .before .if1 .left)
-    (first .get .ensures .0)
-    (fields .before .before .before .get2 .ensures .0)
-    (fields .before .before .get3 .ensures .0)
-    (fields .before .get4 .ensures .0)
-    (fields .get5 .ensures .0)
-    (asks .before .before .ask .ensures)
-    (asks .before .counts-in-range .ensures)
-    (asks .ask2 .ensures)
-    (c .before .before .ask3 .ensures)
+    let lines = c .before .before .before in
+    let counts = lines .before .before in
+    let size = counts .before .before .before in
+    let m = size .before in
+    let n = m .before in
+    let its-line = n .before in
+    let its-cabinet = its-line .before in
+    let edition = its-cabinet .before in
+    let a = edition .before .before .before .args in
+    head-asked (now (a .file)) (a .cabinet .0) (a .line .0) (edition .before .if1 .left)
+    (edition .edition-of .ensures)
+    (its-cabinet .cabinet-of .ensures)
+    (its-line .line-of .ensures)
+    (n .task-count .ensures .0)
+    (m .word-count .ensures .0)
+    (size .file-length .ensures)
+    (counts .before .before .ask .ensures)
+    (counts .before .counts-in-range .ensures)
+    (counts .ask2 .ensures)
+    (lines .ask3 .ensures)
     (c .before .ask4 .ensures)
     (c .ask5 .ensures)
 
@@ -85,21 +82,18 @@ head-spec =
     tie.close
     (tie.spec
     returns
-    get-requires
-    get-requires-2
-    get-requires-3
-    get-requires-4
-    get-requires-5
-    mul-size
-    add-size
-    mul-size-2
-    add-size-2
-    add-size-3
-    add-size-4
+    edition-of-requires
+    cabinet-of-requires
+    line-of-requires
+    task-count-requires
+    word-count-requires
+    file-length-requires
     ask-requires
     counts-in-range-requires
     ask-requires-2
+    cast-ask
     ask-requires-3
+    cast-ask-2
     ask-requires-4
     ask-requires-5
     returns-2)

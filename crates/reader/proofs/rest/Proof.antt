@@ -9,11 +9,30 @@ use borrow.Author.Needs.{needs}
 use Rattle.reader.proofs.rest.Statement.{statement}
 use Rattle.reader.proofs.rest.Tie as tie
 
-get-requires : tie.Need-get-requires
-get-requires c κs = search needs
+abbrev start : tie.After-ws → tie.Start
+start c = c .before .before .before .before .before .before .before .before .before
 
-get-requires-2 : tie.Need-get-requires-2
-get-requires-2 c κs = search needs
+unpacked : (c : tie.After-ws)
+    → Unpacked
+    (now (start c .args .file))
+    (c .before .before .before .before .before .task-count .result)
+    (c .before .before .before .before .word-count .result)
+    (c .before .before .before .table-in .result .records)
+    (take (c .before .before .before .before .word-count .result) (c .before .words-in .result))
+unpacked c =
+    record {
+      sized = search needs;
+      tasks = search needs;
+      words = search needs;
+      records = c .before .before .before .table-in .ensures .1;
+      regions = array-front _ _ _ (c .before .words-in .ensures);
+    }
+
+task-count-requires : tie.Need-task-count-requires
+task-count-requires c κs = search needs
+
+word-count-requires : tie.Need-word-count-requires
+word-count-requires c κs = search needs
 
 table-in-requires : tie.Need-table-in-requires
 table-in-requires c κs = search needs
@@ -26,25 +45,6 @@ array-share-prefix-ws c = search needs
 
 slice-aggregate-body : tie.Need-slice-aggregate-body
 slice-aggregate-body c = front-length _ _ _ (c .before .words-in .ensures)
-
-abbrev start : tie.After-ws → tie.Start
-start c = c .before .before .before .before .before .before .before .before .before
-
-unpacked : (c : tie.After-ws)
-    → Unpacked
-    (now (start c .args .file))
-    (c .before .before .before .before .before .get .result)
-    (c .before .before .before .before .get2 .result)
-    (c .before .before .before .table-in .result .records)
-    (take (c .before .before .before .before .get2 .result) (c .before .words-in .result))
-unpacked c =
-    record {
-      sized = search needs;
-      tasks = search needs;
-      words = search needs;
-      records = c .before .before .before .table-in .ensures .1;
-      regions = array-front _ _ _ (c .before .words-in .ensures);
-    }
 
 body-requires : tie.Need-body-requires
 body-requires c κs = unpacked c
@@ -93,8 +93,8 @@ pub rest-spec : {M : Type 1} → statement M
 rest-spec =
     tie.close
     (tie.spec
-    get-requires
-    get-requires-2
+    task-count-requires
+    word-count-requires
     table-in-requires
     words-in-requires
     array-share-prefix-ws

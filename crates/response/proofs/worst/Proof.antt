@@ -1,10 +1,9 @@
 -- The invariant: the largest so far is the worst of the jobs passed, and the next starts no earlier than `from`.
-use Prim.Native.Nat.{_-_, _*_, _≤_, max}
+use Prim.Native.Nat.{_-_, _≤_, max}
 use mathlib.Core.Path.{_≡_, sym, ap, _∙_}
 use native.Mathlib.Omega.{arith}
 use native.Mathlib.Nat.{mul-le-mul}
 use borrow.Author.Needs.{needs}
-use lib.ListN.{getD}
 use Rattle.paper.specs.Numbers.{mostTicks, horizon}
 use Rattle.paper.specs.Analysis.{startSum, worst}
 use Rattle.paper.specs.declared.Time.the-variants.{At}

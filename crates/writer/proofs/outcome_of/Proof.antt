@@ -1,6 +1,7 @@
 -- `writer::outcome_of` meets its contract. Wrong counts end it; behind that test the counts are in range, and the asks follow in order.
 use mathlib.Core.Path.{refl, sym, ap, _∙_}
 use mathlib.Core.Bool.{Bool, not, _&&_}
+use native.Mathlib.Omega.{arith}
 use borrow.Author.Tests.{not-false}
 use lib.Dec.{leb, ltb}
 use lib.ListN.{length}
@@ -23,7 +24,7 @@ returns : tie.Need-returns
 returns c = stops WrongCounts _ (ap not (sym (c .before .counts-in-range .ensures)) ∙ c .if1 .taken)
 
 file-length-requires : tie.Need-file-length-requires
-file-length-requires c κs = (counts-here c .tasks, counts-here c .words)
+file-length-requires c κs = let h = counts-here c in (omega (arith, h .tasks), omega (arith, h .words))
 
 ask-requires : tie.Need-ask-requires
 ask-requires c κs = search needs
@@ -41,20 +42,20 @@ ask-requires-3 : tie.Need-ask-requires-3
 ask-requires-3 c κs = search needs
 
 records-in-range-requires : tie.Need-records-in-range-requires
-records-in-range-requires c κs = counts-here (c .before .before .before .before .before .before) .tasks
+records-in-range-requires c κs = counts-here (c .before .before .before .before .before .before .before) .tasks
 
 ask-requires-4 : tie.Need-ask-requires-4
 ask-requires-4 c κs = search needs
 
 returns-2 : tie.Need-returns-2
 returns-2 c =
-    let d = c .before .before in
+    let d = c .before .before .before in
     let e = d .before .before in
     let g = e .before .before in
     let h = g .before .before in
     let a = h .before .before .before .before .before .args in
     goes-on WrongCounts (ap not (sym (h .before .counts-in-range .ensures)) ∙ h .if1 .left)
-    (asked OutOfRange (c .ask4 .ensures) (ap (λ (b : Bool). not (leb (a .cabinet) mostCabinet && b)) (c .before .records-in-range .ensures))
+    (asked OutOfRange (c .ask4 .ensures) (ap (λ (b : Bool). not (leb (a .cabinet .0) mostCabinet && b)) (c .before .records-in-range .ensures))
     (asked BadAssignment (d .ask3 .ensures) (ap not (d .before .assignment-holds .ensures))
     (asked BadRegions (e .ask2 .ensures) (ap not (e .before .all-regions-hold .ensures))
     (asked NoRoom (g .ask .ensures) (ap (ltb (a .room)) (g .before .file-length .ensures)) refl))))

@@ -29,7 +29,7 @@ enum-told : tie.Need-enum-told
 enum-told c = search needs
 
 file-length-requires : tie.Need-file-length-requires
-file-length-requires c κs = let h = taken-here c in (h .few-tasks, h .few-words)
+file-length-requires c κs = let h = taken-here c in (omega (arith, h .few-tasks), omega (arith, h .few-words))
 
 slice-relend-prefix-put-file : tie.Need-slice-relend-prefix-put-file
 slice-relend-prefix-put-file c = omega (arith, size-held c)

@@ -1,0 +1,47 @@
+-- What a test says where it is true: its two halves, its two bounds, each k that it looks at.
+use mathlib.Core.Path.{_≡_, refl, sym, _∙_}
+use mathlib.Core.Bool.{Bool, true, false, _&&_, and-eq-true-iff, true≢false}
+use mathlib.Core.Logic.{by-cases}
+use Prim.Native.Nat.{ℕ, zero, suc, _≤_, _<_}
+use native.Mathlib.Omega.{arith}
+use native.Mathlib.Decide.{decLt}
+use borrow.Author.Tests.{leb-true}
+use lib.Dec.{leb}
+use Rattle.paper.specs.Vocabulary.{every}
+
+-- a test that is both true and false proves anything
+pub never : (b : Bool) → b ≡ true → b ≡ false → ⊥
+never b e f = true≢false (sym e ∙ f)
+
+-- the two halves of a test that is true
+pub both : (a b : Bool) → (a && b) ≡ true → (a ≡ true) × (b ≡ true)
+both a b e = and-eq-true-iff a b .0 e
+
+-- a test of two bounds says both
+pub within : (low high x : ℕ) → (leb low x && leb x high) ≡ true → (low ≤ x) × (x ≤ high)
+within low high x e =
+    let p = both (leb low x) (leb x high) e in
+    (leb-true low x (p .0), leb-true x high (p .1))
+
+-- `every n test` is true: each k below n passes, and back
+pub every-says : (n : ℕ) (test : ℕ → Bool) → every n test ≡ true → (k : ℕ) → k < n → test k ≡ true
+unfolding every
+every-says zero test e k h = absurd (omega arith)
+every-says (suc n) test e k h =
+    let p = both (every n test) (test n) e in
+    by-cases (decLt k n)
+    (λ (l : k < n). every-says n test (p .0) k l)
+    (λ l. let q : k ≡ n = omega arith in rw q (p .1))
+
+pub every-all : (n : ℕ) (test : ℕ → Bool) → ((k : ℕ) → k < n → test k ≡ true) → every n test ≡ true
+unfolding every
+every-all zero test h = refl
+every-all (suc n) test h = rw (every-all n test (λ k l. h k (omega arith)), h n (omega arith))
+
+-- it is false as soon as one k below n fails
+pub every-fails : (n : ℕ) (test : ℕ → Bool) (k : ℕ) → k < n → test k ≡ false → every n test ≡ false
+every-fails n test k h e = go (every n test) refl
+  where
+    go : (b : Bool) → every n test ≡ b → every n test ≡ false
+    go true q = absurd (never (test k) (every-says n test q k h) e)
+    go false q = q
