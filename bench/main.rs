@@ -26,8 +26,10 @@ use std::hint::black_box;
 use std::time::{Duration, Instant};
 use table::*;
 
-/// The core's calls, by numbers and slices (crates/bench). A table is the 289 bytes of a request's.
+/// The core's calls, by numbers and slices (crates/bench). A table is the bytes of a request's.
 mod core {
+    use crate::table::MOST_TASKS;
+
     extern "C" {
         pub fn bench_read(
             file: *const u8,
@@ -49,11 +51,11 @@ mod core {
         pub fn bench_tolerances(table: *const u8, table_len: usize) -> u64;
         pub fn bench_passes(
             n: usize,
-            c: &[u64; 8],
-            t: &[u64; 8],
-            d: &[u64; 8],
-            p: &[u64; 8],
-            h: &[u64; 8],
+            c: &[u64; MOST_TASKS],
+            t: &[u64; MOST_TASKS],
+            d: &[u64; MOST_TASKS],
+            p: &[u64; MOST_TASKS],
+            h: &[u64; MOST_TASKS],
         ) -> bool;
     }
 }
@@ -162,7 +164,7 @@ fn analysis_of(n: usize) {
     );
 
     let columns: Vec<analysis::Tasks> = tables.iter().map(analysis::Tasks::of).collect();
-    let wide: Vec<([u64; 8], [u64; 8])> = columns
+    let wide: Vec<([u64; MOST_TASKS], [u64; MOST_TASKS])> = columns
         .iter()
         .map(|y| (y.priority.map(u64::from), y.threshold.map(u64::from)))
         .collect();

@@ -5,6 +5,7 @@ ghost use Prim.Native.Nat.{_≤_};
 ghost use Rattle.columns.specs.Columns.{Fair};
 use paper::Cabinet;
 use paper::Line;
+use paper::MOST_TASKS;
 use paper::Outcome;
 use paper::Response;
 use paper::Time;
@@ -47,10 +48,10 @@ fn ticks(r: Response) -> u64
 }
 
 // The sum of all response times, so that none can be left out.
-fn sum_of(times: [Response; paper::MOST_TASKS]) -> u64 {
+fn sum_of(times: [Response; MOST_TASKS]) -> u64 {
     let mut sum: u64 = 0;
     let mut k: usize = 0;
-    while k < paper::MOST_TASKS {
+    while k < MOST_TASKS {
         sum = sum + ticks(times[k]);
         k += 1;
     }
@@ -76,11 +77,11 @@ pub extern "C" fn bench_tolerances(table: &[u8]) -> u64 {
 #[no_mangle]
 pub extern "C" fn bench_passes(
     n: usize,
-    c: &[u64; 8],
-    t: &[u64; 8],
-    d: &[u64; 8],
-    p: &[u64; 8],
-    h: &[u64; 8],
+    c: &[u64; MOST_TASKS],
+    t: &[u64; MOST_TASKS],
+    d: &[u64; MOST_TASKS],
+    p: &[u64; MOST_TASKS],
+    h: &[u64; MOST_TASKS],
 ) -> bool
     requires { ⌜ Fair n (now c) (now t) (now d) (now p) (now h) ⌝ }
 {

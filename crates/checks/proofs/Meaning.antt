@@ -18,7 +18,7 @@ use Rattle.columns.proofs.Fair.{fair}
 use Rattle.paper.proofs.Asks.{clear, met}
 use Rattle.checks.proofs.Asks.{first-done}
 
--- 1 to 8 tasks
+-- how many tasks there are
 pub some : (n : ℕ) → tasksInRange n ≡ true → 1 ≤ n
 some n e = within 1 mostTasks n e .0
 

@@ -24,7 +24,8 @@ pub fn arrived(x: u64, t: u64) -> u64
     requires { ⌜ (x ≤ horizon + 1) × (1 ≤ t) × (t ≤ mostTicks) ⌝ }
     ensures { λ r. ⌜ r ≡ ceilDiv x t ⌝ }
 {
-    (x + (t - 1)) / t
+    let up = (x + (t - 1)) as u32;
+    (up / t as u32) as u64
 }
 
 // What one task adds.

@@ -6,7 +6,7 @@ use native.Mathlib.Omega.{arith}
 use lib.Dec.{ltb}
 use lib.IntN.{ℤ, subℕ}
 use Rattle.paper.specs.Vocabulary.{lowest}
-use Rattle.paper.specs.Numbers.{eight, Assignment}
+use Rattle.paper.specs.Numbers.{perTask, Assignment}
 use Rattle.paper.specs.Analysis.{Tasks}
 use Rattle.paper.specs.Lengths.{larger, largest, slack, tolerance, leastOf}
 use Rattle.laws.proofs.Lists.{list-same}
@@ -28,9 +28,9 @@ least-same zero s t f g x h k = refl
 least-same (suc n) s t f g x h k =
     rw (least-same n s t f g x (λ j l. h j (omega arith)) (λ j l. k j (omega arith)), h n (omega arith), k n (omega arith))
 
-pub eight-same : {A : Type 0} (n : ℕ) (f g : ℕ → A) (z : A) → ((k : ℕ) → k < n → f k ≡ g k) → eight n f z ≡ eight n g z
-unfolding eight
-eight-same n f g z h = rw (list-same n f g h)
+pub per-task-same : {A : Type 0} (n : ℕ) (f g : ℕ → A) (z : A) → ((k : ℕ) → k < n → f k ≡ g k) → perTask n f z ≡ perTask n g z
+unfolding perTask
+per-task-same n f g z h = rw (list-same n f g h)
 
 largest-same : (f g : ℕ → ℤ) (k : ℕ) → ((t : ℕ) → f t ≡ g t) → largest f k ≡ largest g k
 unfolding largest

@@ -1,4 +1,4 @@
--- `listTo` and `eight`: their lengths and elements, and the loop that fills an array from the front.
+-- `listTo` and `perTask`: their lengths and elements, and the loop that fills an array from the front.
 use mathlib.Core.Path.{_≡_, refl, ap, _∙_}
 use mathlib.Core.List.{List, [], _∷_, _++_, append-assoc, append-nil}
 use mathlib.Core.Logic.{by-cases}
@@ -9,7 +9,7 @@ use native.Mathlib.Decide.{decLt}
 use lib.ListN.{length, getD, set, replicate, length-append, length-replicate, getD-replicate, List·getD-append}
 use lib.Seq.{set-at, getD-at, getD-append-add}
 use Rattle.paper.specs.Vocabulary.{listTo}
-use Rattle.paper.specs.Numbers.{mostTasks, eight}
+use Rattle.paper.specs.Numbers.{mostTasks, perTask}
 
 module _ {A : Type 0} where
   pub list-more : (k : ℕ) (f : ℕ → A) → listTo (k + 1) f ≡ listTo k f ++ (f k ∷ [])
@@ -48,40 +48,40 @@ module _ {A : Type 0} where
   fill-more N i f z h = rw (list-more i f) (fill N i (listTo i f) z (f i) (list-length i f) h)
 
   -- the array of a table's records, or of an answer
-  pub eight-none : (f : ℕ → A) (z : A) → replicate mostTasks z ≡ eight 0 f z
-  unfolding eight listTo
-  eight-none f z = refl
+  pub per-task-none : (f : ℕ → A) (z : A) → replicate mostTasks z ≡ perTask 0 f z
+  unfolding perTask listTo
+  per-task-none f z = refl
 
-  pub eight-more : (i : ℕ) (f : ℕ → A) (z : A) → i < mostTasks → set (eight i f z) i (f i) ≡ eight (i + 1) f z
-  unfolding eight
-  eight-more i f z h = fill-more mostTasks i f z h
+  pub per-task-more : (i : ℕ) (f : ℕ → A) (z : A) → i < mostTasks → set (perTask i f z) i (f i) ≡ perTask (i + 1) f z
+  unfolding perTask
+  per-task-more i f z h = fill-more mostTasks i f z h
 
   -- the turn of a loop that has stored up to i
-  pub eight-turn : (i : ℕ) (f : ℕ → A) (z : A) {xs : List A} {a : A} → i < mostTasks
-      → xs ≡ eight i f z → a ≡ f i → set xs i a ≡ eight (i + 1) f z
-  eight-turn i f z h e g = rw (e, g) (eight-more i f z h)
+  pub per-task-turn : (i : ℕ) (f : ℕ → A) (z : A) {xs : List A} {a : A} → i < mostTasks
+      → xs ≡ perTask i f z → a ≡ f i → set xs i a ≡ perTask (i + 1) f z
+  per-task-turn i f z h e g = rw (e, g) (per-task-more i f z h)
 
-  pub eight-done : (i n : ℕ) (f : ℕ → A) (z : A) {xs : List A} → xs ≡ eight i f z → i ≡ n → xs ≡ eight n f z
-  eight-done i n f z e h = rw (← h) e
+  pub per-task-done : (i n : ℕ) (f : ℕ → A) (z : A) {xs : List A} → xs ≡ perTask i f z → i ≡ n → xs ≡ perTask n f z
+  per-task-done i n f z e h = rw (← h) e
 
   -- it is full
-  pub eight-full : (f : ℕ → A) (z : A) → eight mostTasks f z ≡ listTo mostTasks f
-  unfolding eight
-  eight-full f z = append-nil (listTo mostTasks f)
+  pub per-task-full : (f : ℕ → A) (z : A) → perTask mostTasks f z ≡ listTo mostTasks f
+  unfolding perTask
+  per-task-full f z = append-nil (listTo mostTasks f)
 
-  pub eight-length : (n : ℕ) (f : ℕ → A) (z : A) → n ≤ mostTasks → length (eight n f z) ≡ mostTasks
-  unfolding eight
-  eight-length n f z h = simp (length-append, list-length, length-replicate) (omega arith)
+  pub per-task-length : (n : ℕ) (f : ℕ → A) (z : A) → n ≤ mostTasks → length (perTask n f z) ≡ mostTasks
+  unfolding perTask
+  per-task-length n f z h = simp (length-append, list-length, length-replicate) (omega arith)
 
-  pub eight-at : (n : ℕ) (f : ℕ → A) (z d : A) (k : ℕ) → k < n → getD (eight n f z) k d ≡ f k
-  unfolding eight
-  eight-at n f z d k h =
+  pub per-task-at : (n : ℕ) (f : ℕ → A) (z d : A) (k : ℕ) → k < n → getD (perTask n f z) k d ≡ f k
+  unfolding perTask
+  per-task-at n f z d k h =
       let m : k < length (listTo n f) = rw (list-length n f) h in
       List·getD-append (listTo n f) (replicate (mostTasks - n) z) d k m ∙ list-at n f d k h
 
-  pub eight-past : (n : ℕ) (f : ℕ → A) (z d : A) (k : ℕ) → n ≤ k → k < mostTasks → getD (eight n f z) k d ≡ z
-  unfolding eight
-  eight-past n f z d k h l =
+  pub per-task-past : (n : ℕ) (f : ℕ → A) (z d : A) (k : ℕ) → n ≤ k → k < mostTasks → getD (perTask n f z) k d ≡ z
+  unfolding perTask
+  per-task-past n f z d k h l =
       let q : k ≡ length (listTo n f) + (k - n) = rw (list-length n f) (omega arith) in
       ap (λ (i : ℕ). getD (listTo n f ++ replicate (mostTasks - n) z) i d) q
       ∙ getD-append-add (listTo n f) (replicate (mostTasks - n) z) (k - n) d

@@ -7,7 +7,7 @@ use borrow.Author.Tests.{lt-ltb, le-ltb, leb-true}
 use lib.Dec.{leb}
 use lib.IntN.{ℤ, pos}
 use lib.ListN.{length, replicate}
-use Rattle.paper.specs.Numbers.{mostTasks, mostWords, eight, tasksInRange, countsInRange, recordsInRange}
+use Rattle.paper.specs.Numbers.{mostTasks, mostWords, perTask, tasksInRange, countsInRange, recordsInRange}
 use Rattle.paper.specs.Refusals.{firstOf, tolerancesAsks, belowZeroAt}
 use Rattle.paper.specs.Answers.{whenDone, ticksFor, fitFor}
 use Rattle.paper.specs.declared.Table.{Table}
@@ -25,7 +25,7 @@ use Rattle.lengths.specs.Stages.{earlyAsks, turnedAway}
 pub ticks-refused : {o : Outcome} (r : Refusal) (n : ℕ) (f : ℕ → ℤ) → o ≡ Refused r → turnedAway r ≡ ticksFor o n f
 ticks-refused r n f e = ap (λ o. ticksFor o n f) (sym e)
 
-pub ticks-done : {o : Outcome} {xs : List ℤ} (n : ℕ) (f : ℕ → ℤ) → o ≡ Done → xs ≡ eight n f (pos 0)
+pub ticks-done : {o : Outcome} {xs : List ℤ} (n : ℕ) (f : ℕ → ℤ) → o ≡ Done → xs ≡ perTask n f (pos 0)
     → _≡_ {A = TicksAnswer} (record { outcome = Done; ticks = xs }) (ticksFor o n f)
 ticks-done n f e h = ap (λ xs. record { outcome = Done; ticks = xs }) h ∙ ap (λ o. ticksFor o n f) (sym e)
 
@@ -57,10 +57,10 @@ module _ {a : TicksAnswer} {o : Outcome} (n : ℕ) (f : ℕ → ℤ) (e : a ≡ 
   pub answer-outcome : a .outcome ≡ o
   answer-outcome = ap (λ (x : TicksAnswer). x .outcome) e
 
-  pub answer-ticks : a .outcome ≡ Done → a .ticks ≡ eight n f (pos 0)
+  pub answer-ticks : a .outcome ≡ Done → a .ticks ≡ perTask n f (pos 0)
   answer-ticks d =
       ap (λ (x : TicksAnswer). x .ticks) e
-      ∙ ap (λ x. whenDone x (eight n f (pos 0)) (replicate mostTasks (pos 0))) (sym answer-outcome ∙ d)
+      ∙ ap (λ x. whenDone x (perTask n f (pos 0)) (replicate mostTasks (pos 0))) (sym answer-outcome ∙ d)
 
 -- the region check's answer
 pub fit-refused : {o : Outcome} (r : Refusal) (fits : Bool) → o ≡ Refused r → Fit.Refused r ≡ fitFor o fits

@@ -9,16 +9,16 @@ use lib.IntN.{ℤ, pos}
 use lib.ListN.{getD}
 use lib.Signed.{leZ, ltZ}
 use Rattle.paper.specs.Vocabulary.{every, lowest}
-use Rattle.paper.specs.Numbers.{mostTasks, mostTicks, eight, rec, assigned, recordsInRange}
+use Rattle.paper.specs.Numbers.{mostTasks, mostTicks, perTask, rec, assigned, recordsInRange}
 use Rattle.paper.specs.Analysis.{tasksOf}
 use Rattle.paper.specs.Regions.{listOf}
 use Rattle.paper.specs.Lengths.{tolerance, lowestBelowZero, leastOf, lengthOf, regionsFit, allFit}
 use Rattle.paper.specs.declared.Source.{Source}
 use Rattle.paper.specs.declared.Record.{Record}
 use Rattle.laws.proofs.Every.{every-same}
-use Rattle.laws.proofs.Lists.{eight-at}
+use Rattle.laws.proofs.Lists.{per-task-at}
 use Rattle.laws.proofs.Agree.{SameTasks}
-use Rattle.laws.proofs.AgreeLengths.{lowest-same, least-same, eight-same, tolerance-agree}
+use Rattle.laws.proofs.AgreeLengths.{lowest-same, least-same, per-task-same, tolerance-agree}
 use Rattle.columns.specs.Columns.{columnOf, tasksBy, assignedBy, Between}
 use Rattle.columns.specs.declared.Column.the-variants.{Cost, Period, Deadline, Priority}
 use Rattle.columns.proofs.Fair.{column-at, costs-between, periods-between, deadlines-between}
@@ -45,18 +45,18 @@ module _ (rs : List Record) (n : ℕ) (few : n ≤ mostTasks) where
         (record { few = few; costs = costs-between rs n few e; periods = periods-between rs n few e; deadlines = deadlines-between rs n few e })
 
     pub tolerances-by : {ps : List ℕ} → ps ≡ columnOf rs Priority
-        → eight n (tolerance (tasksBy n cs ts ds) (assignedBy ps [])) (pos 0) ≡ eight n (tolerance (tasksOf rs n) (assigned rs)) (pos 0)
+        → perTask n (tolerance (tasksBy n cs ts ds) (assignedBy ps [])) (pos 0) ≡ perTask n (tolerance (tasksOf rs n) (assigned rs)) (pos 0)
     tolerances-by p =
         rw (c, t, d, p)
-        (eight-same n _ _ (pos 0)
+        (per-task-same n _ _ (pos 0)
         (tolerance-agree _ (tasksOf rs n) (assignedBy (columnOf rs Priority) []) (assigned rs) same-tasks priority-at))
 
   pub costs-by : {cs : List ℕ} → cs ≡ columnOf rs Cost → recordsInRange rs n ≡ true → Between 1 mostTicks n cs
   costs-by c e = rw c (costs-between rs n few e)
 
-  module _ (ticks : List ℤ) (known : ticks ≡ eight n (tolerance (tasksOf rs n) (assigned rs)) (pos 0)) where
+  module _ (ticks : List ℤ) (known : ticks ≡ perTask n (tolerance (tasksOf rs n) (assigned rs)) (pos 0)) where
     tick-at : (j : ℕ) → j < n → getD ticks j (pos 0) ≡ tolerance (tasksOf rs n) (assigned rs) j
-    tick-at j l = rw known (eight-at n (tolerance (tasksOf rs n) (assigned rs)) (pos 0) (pos 0) j l)
+    tick-at j l = rw known (per-task-at n (tolerance (tasksOf rs n) (assigned rs)) (pos 0) (pos 0) j l)
 
     pub lowest-by : lowest n (λ k. ltZ (getD ticks k (pos 0)) (pos 0)) ≡ lowestBelowZero (tasksOf rs n) (assigned rs)
     unfolding lowestBelowZero
@@ -71,18 +71,18 @@ module _ (rs : List Record) (n : ℕ) (few : n ≤ mostTasks) where
         (column-at rs Cost k (omega arith))
 
     pub lengths-by : {cs ps : List ℕ} → cs ≡ columnOf rs Cost → ps ≡ columnOf rs Priority
-        → eight n (lengthBy n cs ps ticks) (pos 0) ≡ eight n (lengthOf (tasksOf rs n) (assigned rs)) (pos 0)
-    lengths-by c p = rw (c, p) (eight-same n _ _ (pos 0) length-by)
+        → perTask n (lengthBy n cs ps ticks) (pos 0) ≡ perTask n (lengthOf (tasksOf rs n) (assigned rs)) (pos 0)
+    lengths-by c p = rw (c, p) (per-task-same n _ _ (pos 0) length-by)
 
   -- the region check with the lengths in an array
-  pub fit-by : (lengths : List ℤ) (own catalogue : List ℕ) → lengths ≡ eight n (lengthOf (tasksOf rs n) (assigned rs)) (pos 0)
+  pub fit-by : (lengths : List ℤ) (own catalogue : List ℕ) → lengths ≡ perTask n (lengthOf (tasksOf rs n) (assigned rs)) (pos 0)
       → every n (λ k. regionsFit (listOf (rec rs k .source) own catalogue) (rec rs k) (getD lengths k (pos 0)))
       ≡ allFit rs (tasksOf rs n) (assigned rs) own catalogue
   unfolding allFit
   fit-by lengths own catalogue known =
       every-same n _ _ (λ k l.
       ap (regionsFit (listOf (rec rs k .source) own catalogue) (rec rs k))
-      (rw known (eight-at n (lengthOf (tasksOf rs n) (assigned rs)) (pos 0) (pos 0) k l)))
+      (rw known (per-task-at n (lengthOf (tasksOf rs n) (assigned rs)) (pos 0) (pos 0) k l)))
 
 -- one record, whose source is known
 pub source-fits : (r : Record) (source : Source) (own catalogue : List ℕ) {q z : ℤ} {b : Bool} → r .source ≡ source → z ≡ q

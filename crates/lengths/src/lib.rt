@@ -7,7 +7,7 @@ ghost use lib.IntN.{pos};
 ghost use lib.ListN.{getD};
 ghost use lib.Signed.{leZ, ltZ};
 ghost use Rattle.paper.specs.Vocabulary.{every, lowest};
-ghost use Rattle.paper.specs.Numbers.{mostTasks, mostTicks, eight, rec, assigned, recordsInRange};
+ghost use Rattle.paper.specs.Numbers.{mostTasks, mostTicks, perTask, rec, assigned, recordsInRange};
 ghost use Rattle.paper.specs.Analysis.{tasksOf};
 ghost use Rattle.paper.specs.Regions.{listOf};
 ghost use Rattle.paper.specs.Lengths.{smaller, tolerance, lengthOf, regionsFit, allFit};
@@ -82,7 +82,7 @@ fn all_lengths(
     n: usize,
 ) -> [i64; MOST_TASKS]
     requires { ⌜ (n ≤ mostTasks) × Between 1 mostTicks n (now costs) ⌝ }
-    ensures { λ r. ⌜ r ≡ eight n (lengthBy n (now (costs .entry)) (now (priorities .entry)) (now (ticks .entry))) (pos 0) ⌝ }
+    ensures { λ r. ⌜ r ≡ perTask n (lengthBy n (now (costs .entry)) (now (priorities .entry)) (now (ticks .entry))) (pos 0) ⌝ }
 {
     let mut lengths = [0i64; MOST_TASKS];
     let mut k: usize = 0;
@@ -96,7 +96,7 @@ fn all_lengths(
 // A table whose numbers are in range: the tolerances of its columns.
 fn table_tolerances(t: Table) -> [i64; MOST_TASKS]
     requires { ⌜ (t .n ≤ mostTasks) × (recordsInRange (t .records) (t .n) ≡ true) ⌝ }
-    ensures { λ r. ⌜ r ≡ eight (t .n) (tolerance (tasksOf (t .records) (t .n)) (assigned (t .records))) (pos 0) ⌝ }
+    ensures { λ r. ⌜ r ≡ perTask (t .n) (tolerance (tasksOf (t .records) (t .n)) (assigned (t .records))) (pos 0) ⌝ }
 {
     let rs = t.records;
     let costs = columns::column_of(rs, Column::Cost);
@@ -108,8 +108,8 @@ fn table_tolerances(t: Table) -> [i64; MOST_TASKS]
 
 // Its lengths, by the tolerances that are known already.
 fn table_lengths(t: Table, ticks: &[i64; MOST_TASKS]) -> [i64; MOST_TASKS]
-    requires { ⌜ (t .n ≤ mostTasks) × (recordsInRange (t .records) (t .n) ≡ true) × (now ticks ≡ eight (t .n) (tolerance (tasksOf (t .records) (t .n)) (assigned (t .records))) (pos 0)) ⌝ }
-    ensures { λ r. ⌜ r ≡ eight (t .n) (lengthOf (tasksOf (t .records) (t .n)) (assigned (t .records))) (pos 0) ⌝ }
+    requires { ⌜ (t .n ≤ mostTasks) × (recordsInRange (t .records) (t .n) ≡ true) × (now ticks ≡ perTask (t .n) (tolerance (tasksOf (t .records) (t .n)) (assigned (t .records))) (pos 0)) ⌝ }
+    ensures { λ r. ⌜ r ≡ perTask (t .n) (lengthOf (tasksOf (t .records) (t .n)) (assigned (t .records))) (pos 0) ⌝ }
 {
     let rs = t.records;
     let costs = columns::column_of(rs, Column::Cost);

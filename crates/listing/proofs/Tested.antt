@@ -6,11 +6,11 @@ use mathlib.Core.Bool.{Bool, true, false, _&&_}
 use mathlib.Core.List.{List}
 use lib.ListN.{length, take, getD}
 use lib.Seq.{length-take-le}
-use Rattle.paper.specs.Numbers.{mostTasks, eight, eachOnce, thresholdsHold}
+use Rattle.paper.specs.Numbers.{mostTasks, perTask, eachOnce, thresholdsHold}
 use Rattle.paper.specs.Analysis.{Tasks, passes}
 use Rattle.paper.specs.Rows.{rowSize, placeOf, rowAssignment, rowHolds}
 use Rattle.paper.proofs.Tests.{never}
-use Rattle.laws.proofs.Lists.{eight-at, eight-length}
+use Rattle.laws.proofs.Lists.{per-task-at, per-task-length}
 use Rattle.laws.proofs.Agree.{SameTasks, passes-agree}
 use Rattle.columns.specs.Columns.{tasksBy, assignedBy, Fair}
 use Rattle.columns.proofs.Fair.{threshold-range}
@@ -35,11 +35,11 @@ same-tasks : (y : Tasks) → SameTasks y y
 same-tasks y = record { n = refl; c = λ j l. refl; t = λ j l. refl; d = λ j l. refl }
 
 module _ (n : ℕ) (cs ts ds d : List ℕ) (r : Ranged n cs ts ds) (size : length d ≡ rowSize mostTasks) (ps hs : List ℕ)
-    (p : ps ≡ eight n (λ k. placeOf (take n d) (suc k)) 0) (h : hs ≡ eight n (λ k. getD d (n + k) 0) 0) where
+    (p : ps ≡ perTask n (λ k. placeOf (take n d) (suc k)) 0) (h : hs ≡ perTask n (λ k. getD d (n + k) 0) 0) where
   priority-between : (j : ℕ) → j < n → (1 ≤ getD ps j 0) × (getD ps j 0 ≤ n)
   priority-between j l =
       let e = length-take-le n d (omega (arith, r .few)) in
-      rw (p, eight-at n (λ k. placeOf (take n d) (suc k)) 0 0 j l)
+      rw (p, per-task-at n (λ k. placeOf (take n d) (suc k)) 0 0 j l)
       (place-least (take n d) (suc j) (omega (arith, r .some)), omega (arith, place-most (take n d) (suc j)))
 
   -- the analysis may run on the columns
@@ -51,19 +51,19 @@ module _ (n : ℕ) (cs ts ds d : List ℕ) (r : Ranged n cs ts ds) (size : lengt
         periods = r .periods;
         deadlines = r .deadlines;
         priorities = record {
-          size = rw p (eight-length n (λ k. placeOf (take n d) (suc k)) 0 (r .few));
+          size = rw p (per-task-length n (λ k. placeOf (take n d) (suc k)) 0 (r .few));
           above = λ j l. priority-between j l .0;
           below = λ j l. omega (arith, priority-between j l, r .few);
         };
         thresholds = record {
-          size = rw h (eight-length n (λ k. getD d (n + k) 0) 0 (r .few));
+          size = rw h (per-task-length n (λ k. getD d (n + k) 0) 0 (r .few));
           above = λ j l. threshold-range n (assignedBy ps hs) t j l .0;
           below = λ j l. omega (arith, priority-between j l, threshold-range n (assignedBy ps hs) t j l, r .few);
         };
       }
 
   -- and their answer is the row's
-  pub row-tested : (os : List ℕ) → os ≡ eight n (λ k. getD d k 0) 0 → {o t b : Bool} → o ≡ eachOnce n (λ k. getD os k 0)
+  pub row-tested : (os : List ℕ) → os ≡ perTask n (λ k. getD d k 0) 0 → {o t b : Bool} → o ≡ eachOnce n (λ k. getD os k 0)
       → t ≡ thresholdsHold n (assignedBy ps hs) → (o && t) ≡ true → b ≡ passes (tasksBy n cs ts ds) (assignedBy ps hs)
       → Tests (tasksBy n cs ts ds) b d
   row-tested os f {b = b} u v w e =
@@ -72,7 +72,7 @@ module _ (n : ℕ) (cs ts ds d : List ℕ) (r : Ranged n cs ts ds) (size : lengt
       (sym (row-tests n d (r .few) size ps hs p h os f) ∙ (rw (u, v) at w))
       (e ∙ passes-agree y y (assignedBy ps hs) (rowAssignment n (take (rowSize n) d)) (same-tasks y) (same-assignment n d (r .few) size ps hs p h))
 
-  pub row-untested : (os : List ℕ) → os ≡ eight n (λ k. getD d k 0) 0 → {o t : Bool} → o ≡ eachOnce n (λ k. getD os k 0)
+  pub row-untested : (os : List ℕ) → os ≡ perTask n (λ k. getD d k 0) 0 → {o t : Bool} → o ≡ eachOnce n (λ k. getD os k 0)
       → t ≡ thresholdsHold n (assignedBy ps hs) → (o && t) ≡ false → Tests (tasksBy n cs ts ds) false d
   row-untested os f u v w =
       ill-formed (tasksBy n cs ts ds) d (sym (row-tests n d (r .few) size ps hs p h os f) ∙ (rw (u, v) at w))

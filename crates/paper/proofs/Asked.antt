@@ -1,4 +1,4 @@
--- The numbers that each call asks, in the order asked, as document 01 lists them under its table. By computation. Assumes nothing.
+-- The numbers that each call asks, in the order asked, as document 01 lists them under its table. By computation.
 use Prim.Native.Nat.{ℕ}
 use mathlib.Core.Path.{_≡_, refl}
 use mathlib.Core.List.{List, [], _∷_, map}

@@ -1,12 +1,12 @@
 -- C may lie above D; such a task never passes: no job finishes before it has had its own cost.
-use Prim.Native.Nat.{ℕ, zero, suc, _+_, _≤_, _<_}
-use mathlib.Core.Path.{_≡_, refl, sym}
+use Prim.Native.Nat.{ℕ, zero, suc, _≤_, _<_}
+use mathlib.Core.Path.{_≡_, refl}
 use mathlib.Core.Bool.{Bool, true, false}
 use native.Mathlib.Omega.{arith}
 use native.Mathlib.Nat.{zero-mul}
 use borrow.Author.Tests.{eqb-true}
 use Rattle.paper.specs.Numbers.{Assignment}
-use Rattle.paper.specs.Analysis.{Tasks, Standing, least, load, standing, startOf, finishSum, finishOf, finishFrom, job, within, response, taskPasses, passes}
+use Rattle.paper.specs.Analysis.{Tasks, Standing, least, standing, startOf, finishSum, finishOf, finishFrom, job, taskPasses, passes}
 use Rattle.paper.specs.declared.Time.{Time}
 use Rattle.paper.specs.declared.Time.the-variants.{At, Beyond}
 use Rattle.paper.proofs.Tests.{every-fails}

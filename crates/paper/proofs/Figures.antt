@@ -1,9 +1,9 @@
 -- The figures of document 01 that are marked P come out of the definitions, and so does the CRC's published check value.
--- By computation. Assumes nothing.
+-- By computation.
 use mathlib.Core.Path.{_≡_, refl}
 use mathlib.Core.List.{List, [], _∷_, map}
 use Rattle.paper.specs.Vocabulary.{every, listTo, lowest, sumTo, maxTo}
-use Rattle.paper.specs.Numbers.{eight, eachOnce, thresholdsHold}
+use Rattle.paper.specs.Numbers.{perTask, eachOnce, thresholdsHold}
 use Rattle.paper.specs.Seal.{sealBit, sealBits, sealByte, sealFrom, sealOf}
 use Rattle.paper.specs.Regions.{regionsHold, allRegionsHold}
 use Rattle.paper.specs.Analysis.{least, before, by, started, load, blocks, blocking, standing, levelSum, levelOf, startSum, startOf, finishSum, finishOf, finishFrom, job, later, worst, worstFrom, response, within, taskPasses, passes}
@@ -19,7 +19,7 @@ foretold fs = map (λ f. f .comes) fs
 
 -- every figure of the table, as one statement
 pub figures-hold : came-out figures ≡ foretold figures
-unfolding every listTo lowest sumTo maxTo eight eachOnce thresholdsHold regionsHold allRegionsHold least before by started load blocks blocking standing levelSum levelOf startSum startOf finishSum finishOf finishFrom job later worst worstFrom response within taskPasses passes larger smaller largest slack tolerance lowestBelowZero leastOf lengthOf regionsFit allFit placeOf rowAssignment rowHolds numbered join those passingRows
+unfolding every listTo lowest sumTo maxTo perTask eachOnce thresholdsHold regionsHold allRegionsHold least before by started load blocks blocking standing levelSum levelOf startSum startOf finishSum finishOf finishFrom job later worst worstFrom response within taskPasses passes larger smaller largest slack tolerance lowestBelowZero leastOf lengthOf regionsFit allFit placeOf rowAssignment rowHolds numbered join those passingRows
 figures-hold = refl
 
 -- CRC-16/IBM-3740 over the digits 1 to 9

@@ -6,7 +6,7 @@ use mathlib.Core.Bool.{Bool, cond}
 use mathlib.Core.List.{List, [], _++_}
 use lib.IntN.{ℤ, pos}
 use lib.ListN.{length, take, drop, replicate}
-use Rattle.paper.specs.Numbers.{mostTasks, eight, zeroRecord, rec, assigned}
+use Rattle.paper.specs.Numbers.{mostTasks, perTask, zeroRecord, rec, assigned}
 use Rattle.paper.specs.File.{tasksIn, wordsIn, fileLength, regionWords, tableIn, fileOf}
 use Rattle.paper.specs.Regions.{Part, partOf, noPart, listOf, recordPart, regionsPart, nameList, namePart}
 use Rattle.paper.specs.Analysis.{Tasks, tasksOf, standing, response}
@@ -84,14 +84,14 @@ timeOf t i =
     record { time = response (tasksOf (t .records) (t .n)) (standing (tasksOf (t .records) (t .n)) (assigned (t .records)) i) i }
 
 abbrev pub timesFor : Outcome → Table → TimesAnswer
-timesFor o t = record { outcome = o; times = whenDone o (eight (t .n) (timeOf t) noTime) (replicate mostTasks noTime) }
+timesFor o t = record { outcome = o; times = whenDone o (perTask (t .n) (timeOf t) noTime) (replicate mostTasks noTime) }
 
 abbrev pub timesAnswer : Table → TimesAnswer
 timesAnswer t = timesFor (firstOf (timesAsks t)) t
 
 -- Tolerances, lengths: a signed number for each task
 abbrev pub ticksFor : Outcome → ℕ → (ℕ → ℤ) → TicksAnswer
-ticksFor o n f = record { outcome = o; ticks = whenDone o (eight n f (pos 0)) (replicate mostTasks (pos 0)) }
+ticksFor o n f = record { outcome = o; ticks = whenDone o (perTask n f (pos 0)) (replicate mostTasks (pos 0)) }
 
 abbrev pub tolerancesAnswer : Table → TicksAnswer
 tolerancesAnswer t =

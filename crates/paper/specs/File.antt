@@ -5,7 +5,7 @@ use mathlib.Core.List.{List, [], _∷_}
 use lib.Dec.{eqb}
 use lib.ListN.{getD, length, take, replicate}
 use Rattle.paper.specs.Vocabulary.{listTo, every}
-use Rattle.paper.specs.Numbers.{eight, zeroRecord, rec}
+use Rattle.paper.specs.Numbers.{perTask, zeroRecord, rec}
 use Rattle.paper.specs.Bits.{field, putField, putFields}
 use Rattle.paper.specs.Seal.{sealOf}
 use Rattle.paper.specs.declared.Source.{Source}
@@ -107,7 +107,7 @@ unfoldable pub regionWords : List ℕ → ℕ → ℕ → List ℕ
 regionWords f n m = listTo m (λ k. field f (wordAt n k) 20)
 
 abbrev pub recordsIn : List ℕ → ℕ → List Record
-recordsIn f n = eight n (recordIn f) zeroRecord
+recordsIn f n = perTask n (recordIn f) zeroRecord
 
 abbrev pub tableIn : List ℕ → Table
 tableIn f = record { n = tasksIn f; records = recordsIn f (tasksIn f) }

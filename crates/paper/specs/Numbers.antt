@@ -40,10 +40,10 @@ zeroRecord = record { cost = 0; period = 0; deadline = 0; priority = 0; threshol
 abbrev pub rec : List Record → ℕ → Record
 rec rs k = getD rs k zeroRecord
 
--- one thing for each of n tasks, then what stands past n: eight in all, for n up to 8
+-- one thing for each of n tasks, then what stands past n, up to the most tasks that a table holds
 module _ {A : Type 0} where
-  unfoldable pub eight : ℕ → (ℕ → A) → A → List A
-  eight n f past = listTo n f ++ replicate (mostTasks - n) past
+  unfoldable pub perTask : ℕ → (ℕ → A) → A → List A
+  perTask n f past = listTo n f ++ replicate (mostTasks - n) past
 
 abbrev pub tasksInRange : ℕ → Bool
 tasksInRange n = leb 1 n && leb n mostTasks

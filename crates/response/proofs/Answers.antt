@@ -3,7 +3,7 @@ use Prim.Native.Nat.{ℕ, _-_, _<_}
 use mathlib.Core.Path.{_≡_, ap, sym, _∙_}
 use mathlib.Core.List.{List, _++_}
 use lib.ListN.{length, replicate}
-use Rattle.paper.specs.Numbers.{mostTasks, eight}
+use Rattle.paper.specs.Numbers.{mostTasks, perTask}
 use Rattle.paper.specs.Analysis.{tasksOf, standing, response}
 use Rattle.paper.specs.Refusals.{firstOf, timesAsks}
 use Rattle.paper.specs.Answers.{noTime, timeOf, timesFor, timesAnswer}
@@ -27,8 +27,8 @@ module _ (t : Table) (size : length (t .records) ≡ mostTasks) where
       ∙ ap (λ y. record { time = response y (standing y (assignedBy (columnOf (t .records) Priority) (columnOf (t .records) Threshold)) i) i }) (tasks-by (t .records) (t .n) size)
       ∙ ap (λ a. record { time = response (tasksOf (t .records) (t .n)) (standing (tasksOf (t .records) (t .n)) a i) i }) (assigned-by (t .records) size)
 
-  pub times-is : eight (t .n) (answerBy (t .n) (columnOf (t .records) Cost) (columnOf (t .records) Period) (columnOf (t .records) Priority) (columnOf (t .records) Threshold)) noTime ≡ eight (t .n) (timeOf t) noTime
-  unfolding eight
+  pub times-is : perTask (t .n) (answerBy (t .n) (columnOf (t .records) Cost) (columnOf (t .records) Period) (columnOf (t .records) Priority) (columnOf (t .records) Threshold)) noTime ≡ perTask (t .n) (timeOf t) noTime
+  unfolding perTask
   times-is = ap (λ xs. xs ++ replicate (mostTasks - t .n) noTime) (list-same (t .n) _ _ time-is)
 
 -- a call that is turned away
@@ -40,6 +40,6 @@ module _ (t : Table) (done : firstOf (timesAsks t) ≡ Done) (cs ts ps : List �
   pub ready-is : Ready (t .n) cs ts ps
   ready-is = rw (ec, et, ep) (ready _ _ _ _ _ _ (times-fair t (times-done t done)))
 
-  pub done-is : (hs : List ℕ) (times : List Response) → hs ≡ columnOf (t .records) Threshold → length (t .records) ≡ mostTasks → times ≡ eight (t .n) (answerBy (t .n) cs ts ps hs) noTime → record { outcome = Done; times = times } ≡ timesAnswer t
+  pub done-is : (hs : List ℕ) (times : List Response) → hs ≡ columnOf (t .records) Threshold → length (t .records) ≡ mostTasks → times ≡ perTask (t .n) (answerBy (t .n) cs ts ps hs) noTime → record { outcome = Done; times = times } ≡ timesAnswer t
   done-is hs times eh size q =
       ap (λ xs. record { outcome = Done; times = xs }) (q ∙ rw (ec, et, ep, eh) (times-is t size)) ∙ sym (ap (λ o. timesFor o t) done)

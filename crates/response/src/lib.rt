@@ -12,7 +12,7 @@ ghost use mathlib.Core.List.{[]};
 ghost use Prim.Native.Nat.{_+_, _-_, _*_, _<_, _≤_, max};
 ghost use lib.Dec.{leb, ltb};
 ghost use lib.ListN.{getD, replicate};
-ghost use Rattle.paper.specs.Numbers.{mostTasks, mostTicks, horizon, eight};
+ghost use Rattle.paper.specs.Numbers.{mostTasks, mostTicks, horizon, perTask};
 ghost use Rattle.paper.specs.Answers.{noTime, timesAnswer};
 ghost use Rattle.paper.specs.Analysis.{blocking, levelOf, startSum, startOf, finishOf, worst, response, within, passes};
 ghost use Rattle.columns.specs.Columns.{tasksBy, assignedBy, Fair};
@@ -305,7 +305,7 @@ fn all_responses(
     h: &Numbers,
 ) -> [Response; paper::MOST_TASKS]
     requires { ⌜ Ready n (now c) (now t) (now p) ⌝ }
-    ensures { λ r. ⌜ r ≡ eight n (answerBy n (now (c .entry)) (now (t .entry)) (now (p .entry)) (now (h .entry))) noTime ⌝ }
+    ensures { λ r. ⌜ r ≡ perTask n (answerBy n (now (c .entry)) (now (t .entry)) (now (p .entry)) (now (h .entry))) noTime ⌝ }
 {
     let mut times = no_times();
     let mut i = 0;

@@ -3,7 +3,7 @@ ghost use mathlib.Core.Path.{_≡_};
 ghost use mathlib.Core.List.{_++_};
 ghost use Prim.Native.Nat.{suc, _+_, _≤_, _<_};
 ghost use lib.ListN.{length, take, drop, getD};
-ghost use Rattle.paper.specs.Numbers.{mostTasks, eight};
+ghost use Rattle.paper.specs.Numbers.{mostTasks, perTask};
 ghost use Rattle.paper.specs.Rows.{rowSize, placeOf, rowHolds};
 ghost use Rattle.rows.specs.Places.{freshAt, fitsAt};
 use paper::MOST_TASKS;
@@ -35,7 +35,7 @@ pub fn place_of(d: &[u8; MOST_NUMBERS], n: usize, v: u64) -> u64
 // The record numbers, from highest priority to lowest.
 pub fn order_of(d: &[u8; MOST_NUMBERS], n: usize) -> [u64; MOST_TASKS]
     requires { ⌜ (n ≤ mostTasks) × (length (now d) ≡ rowSize mostTasks) ⌝ }
-    ensures { λ r. ⌜ r ≡ eight n (λ k. getD (now (d .entry)) k 0) 0 ⌝ }
+    ensures { λ r. ⌜ r ≡ perTask n (λ k. getD (now (d .entry)) k 0) 0 ⌝ }
 {
     let mut xs = [0u64; MOST_TASKS];
     let mut k: usize = 0;
@@ -49,7 +49,7 @@ pub fn order_of(d: &[u8; MOST_NUMBERS], n: usize) -> [u64; MOST_TASKS]
 // The priorities of records 1 to n.
 pub fn priorities_of(d: &[u8; MOST_NUMBERS], n: usize) -> [u64; MOST_TASKS]
     requires { ⌜ (n ≤ mostTasks) × (length (now d) ≡ rowSize mostTasks) ⌝ }
-    ensures { λ r. ⌜ r ≡ eight n (λ k. placeOf (take n (now (d .entry))) (suc k)) 0 ⌝ }
+    ensures { λ r. ⌜ r ≡ perTask n (λ k. placeOf (take n (now (d .entry))) (suc k)) 0 ⌝ }
 {
     let mut xs = [0u64; MOST_TASKS];
     let mut k: usize = 0;
@@ -63,7 +63,7 @@ pub fn priorities_of(d: &[u8; MOST_NUMBERS], n: usize) -> [u64; MOST_TASKS]
 // The thresholds of records 1 to n.
 pub fn thresholds_of(d: &[u8; MOST_NUMBERS], n: usize) -> [u64; MOST_TASKS]
     requires { ⌜ (n ≤ mostTasks) × (length (now d) ≡ rowSize mostTasks) ⌝ }
-    ensures { λ r. ⌜ r ≡ eight n (λ k. getD (now (d .entry)) (n + k) 0) 0 ⌝ }
+    ensures { λ r. ⌜ r ≡ perTask n (λ k. getD (now (d .entry)) (n + k) 0) 0 ⌝ }
 {
     let mut xs = [0u64; MOST_TASKS];
     let mut k: usize = 0;

@@ -4,7 +4,7 @@ ghost use mathlib.Core.List.{[]};
 ghost use Prim.Native.Nat.{_+_, _*_, _≤_, _<_, min};
 ghost use lib.IntN.{pos};
 ghost use lib.ListN.{getD};
-ghost use Rattle.paper.specs.Numbers.{mostTicks, eight};
+ghost use Rattle.paper.specs.Numbers.{mostTicks, perTask};
 ghost use Rattle.paper.specs.Lengths.{tolerance};
 ghost use Rattle.columns.specs.Columns.{tasksBy, assignedBy};
 ghost use Rattle.tolerance.specs.Walk.{Usable, mostNeed, mostPart, valueOf, largerOf, withTask, Stretch, Tolerated};
@@ -114,7 +114,7 @@ pub fn all_tolerances(
     n: usize,
 ) -> [i64; MOST_TASKS]
     requires { ⌜ Usable n (now costs) (now periods) (now deadlines) ⌝ }
-    ensures { λ r. ⌜ r ≡ eight n (tolerance (tasksBy n (now (costs .entry)) (now (periods .entry)) (now (deadlines .entry))) (assignedBy (now (priorities .entry)) [])) (pos 0) ⌝ }
+    ensures { λ r. ⌜ r ≡ perTask n (tolerance (tasksBy n (now (costs .entry)) (now (periods .entry)) (now (deadlines .entry))) (assignedBy (now (priorities .entry)) [])) (pos 0) ⌝ }
 {
     let mut ticks = [0i64; MOST_TASKS];
     let mut i: usize = 0;

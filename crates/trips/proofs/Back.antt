@@ -8,7 +8,7 @@ use borrow.Author.Tests.{eq-eqb}
 use lib.Dec.{eqb}
 use lib.ListN.{length}
 use lib.Seq.{ext-getD}
-use Rattle.paper.specs.Numbers.{rec, zeroRecord, eight}
+use Rattle.paper.specs.Numbers.{rec, zeroRecord, perTask}
 use Rattle.paper.specs.Bits.{field}
 use Rattle.paper.specs.File.{headWidths, headValues, recordIn, recordAt, spareClear, editionIn, cabinetIn, lineIn, tasksIn, wordsIn, regionWords, recordsIn, tableIn}
 use Rattle.paper.specs.Answers.{readOutcome}
@@ -38,11 +38,11 @@ module _ (t : Table) (cabinet line : ℕ) (own f : List ℕ) (i : IsFile t cabin
   head : Head cabinet line (t .n) (length own) f
   head = head-says cabinet line (t .n) (length own) f (i .head)
 
-  records-back : recordsIn f (tasksIn f) ≡ eight (t .n) (rec (t .records)) zeroRecord
-  unfolding eight
+  records-back : recordsIn f (tasksIn f) ≡ perTask (t .n) (rec (t .records)) zeroRecord
+  unfolding perTask
   records-back = rw (head .tasks, list-same (t .n) (recordIn f) (rec (t .records)) (λ k l. fields-record f k (rec (t .records) k) (i .records k l) .0))
 
-  pub table-back : tableIn f ≡ record { n = t .n; records = eight (t .n) (rec (t .records)) zeroRecord }
+  pub table-back : tableIn f ≡ record { n = t .n; records = perTask (t .n) (rec (t .records)) zeroRecord }
   table-back = λ j. record { n = head .tasks j; records = records-back j }
 
   pub words-back : regionWords f (tasksIn f) (wordsIn f) ≡ own

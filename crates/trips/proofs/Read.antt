@@ -14,7 +14,7 @@ use Rattle.paper.specs.declared.Source.{Source}
 use Rattle.paper.specs.declared.Source.the-variants.{Own, Catalogue}
 use Rattle.paper.specs.declared.Record.{Record}
 use Rattle.paper.proofs.Tests.{both, every-says}
-use Rattle.laws.proofs.Lists.{list-length, list-at, eight-at}
+use Rattle.laws.proofs.Lists.{list-length, list-at, per-task-at}
 use Rattle.bits.specs.Fields.{fieldsAt, Bytes}
 use Rattle.bits.proofs.Field.{field-lt}
 use Rattle.trips.proofs.One.{IsFile}
@@ -80,7 +80,7 @@ unfolding regionWords
 word-at f n m k h = list-at m (λ j. field f (wordAt n j) 20) 0 k h
 
 pub record-at : (f : List ℕ) (n k : ℕ) → k < n → rec (recordsIn f n) k ≡ recordIn f k
-record-at f n k h = eight-at n (recordIn f) zeroRecord zeroRecord k h
+record-at f n k h = per-task-at n (recordIn f) zeroRecord zeroRecord k h
 
 record Spare (f : List ℕ) (n m : ℕ) : Type 0 where
   pub head : field f 4 4 ≡ 0

@@ -7,13 +7,13 @@ use native.Mathlib.Decide.{decLt}
 use native.Mathlib.Omega.{arith}
 use lib.ListN.{length, List·getD-eq-default}
 use lib.Seq.{ext-getD}
-use Rattle.paper.specs.Numbers.{mostTasks, rec, zeroRecord, eight}
+use Rattle.paper.specs.Numbers.{mostTasks, rec, zeroRecord, perTask}
 use Rattle.paper.specs.File.{tasksIn, wordsIn, regionWords, tableIn, fileOf}
 use Rattle.paper.specs.Answers.{readOutcome, writeOutcome}
 use Rattle.paper.specs.declared.Outcome.the-variants.{Done}
 use Rattle.paper.specs.declared.Record.{Record}
 use Rattle.paper.specs.declared.Table.{Table}
-use Rattle.laws.proofs.Lists.{eight-length, eight-at, eight-past}
+use Rattle.laws.proofs.Lists.{per-task-length, per-task-at, per-task-past}
 use Rattle.bits.specs.Fields.{Bytes}
 use Rattle.bits.proofs.Field.{field-lt}
 use Rattle.trips.proofs.One.{one-file}
@@ -26,18 +26,18 @@ use Rattle.trips.proofs.Back.{table-back, words-back, reads}
 
 -- the table t with zero records past n, as the reader leaves them
 abbrev pub zeroPast : Table → Table
-zeroPast t = record { n = t .n; records = eight (t .n) (rec (t .records)) zeroRecord }
+zeroPast t = record { n = t .n; records = perTask (t .n) (rec (t .records)) zeroRecord }
 
 -- it has the same records up to n,
 pub past-same : (t : Table) (k : ℕ) → k < t .n → rec (zeroPast t .records) k ≡ rec (t .records) k
-past-same t k l = eight-at (t .n) (rec (t .records)) zeroRecord zeroRecord k l
+past-same t k l = per-task-at (t .n) (rec (t .records)) zeroRecord zeroRecord k l
 
 -- zero records from there on,
 pub past-zero : (t : Table) (k : ℕ) → t .n ≤ mostTasks → t .n ≤ k → rec (zeroPast t .records) k ≡ zeroRecord
 past-zero t k h l =
     by-cases (decLt k mostTasks)
-    (λ (i : k < mostTasks). eight-past (t .n) (rec (t .records)) zeroRecord zeroRecord k l i)
-    (λ i. List·getD-eq-default (zeroPast t .records) zeroRecord {n = k} (omega (arith, eight-length (t .n) (rec (t .records)) zeroRecord h)))
+    (λ (i : k < mostTasks). per-task-past (t .n) (rec (t .records)) zeroRecord zeroRecord k l i)
+    (λ i. List·getD-eq-default (zeroPast t .records) zeroRecord {n = k} (omega (arith, per-task-length (t .n) (rec (t .records)) zeroRecord h)))
 
 -- and is t itself where t's records past n are zero
 pub past-none : (t : Table) → t .n ≤ mostTasks → length (t .records) ≡ mostTasks → ((k : ℕ) → t .n ≤ k → rec (t .records) k ≡ zeroRecord) → zeroPast t ≡ t
@@ -48,7 +48,7 @@ past-none t h l z = ap (λ (rs : List Record). with-records (t .n) rs) same
 
     same : zeroPast t .records ≡ t .records
     same =
-        ext-getD zeroRecord (zeroPast t .records) (t .records) (eight-length (t .n) (rec (t .records)) zeroRecord h ∙ sym l)
+        ext-getD zeroRecord (zeroPast t .records) (t .records) (per-task-length (t .n) (rec (t .records)) zeroRecord h ∙ sym l)
         (λ k _. by-cases (decLt k (t .n)) (λ (i : k < t .n). past-same t k i) (λ i. past-zero t k h (omega arith) ∙ sym (z k (omega arith))))
 
 -- A table that the writer takes is read back from its file under the plate that it was written for and with the same catalogue:

@@ -1,4 +1,4 @@
--- `ask::respond_all` ends: the measure is the number of turns that are left. The lengths of what is lent stay. Assumes nothing.
+-- `ask::respond_all` ends: the measure is the number of turns that are left. The lengths of what is lent stay.
 use mathlib.Core.Path.{_≡_}
 use borrow.Author.Needs.{needs}
 use lib.ListN.{length}

@@ -4,20 +4,20 @@ use Prim.Native.Nat.{_≤_, _-_}
 use mathlib.Core.Path.{_≡_, _∙_}
 use native.Mathlib.Omega.{arith}
 use borrow.Author.Needs.{needs}
-use Rattle.paper.specs.Numbers.{mostTasks, rec, eight}
-use Rattle.laws.proofs.Lists.{eight-none, eight-turn, eight-done, eight-full}
+use Rattle.paper.specs.Numbers.{mostTasks, rec, perTask}
+use Rattle.laws.proofs.Lists.{per-task-none, per-task-turn, per-task-done, per-task-full}
 use Rattle.columns.specs.Columns.{valueIn}
 use Rattle.columns.proofs.column_of.Statement.{statement}
 use Rattle.columns.proofs.column_of.Tie as tie
 
 abbrev Inv-loop : tie.InvT-loop
-Inv-loop which rs xs₀ k₀ xs k = (k ≤ mostTasks) × (xs ≡ eight k (λ j. valueIn which (rec rs j)) 0)
+Inv-loop which rs xs₀ k₀ xs k = (k ≤ mostTasks) × (xs ≡ perTask k (λ j. valueIn which (rec rs j)) 0)
 
 abbrev μ-loop : tie.MeasureT-loop
 μ-loop which rs xs₀ k₀ xs k = mostTasks - k
 
 loop-holds : tie.Need-loop-holds Inv-loop μ-loop
-loop-holds c = (omega arith, eight-none _ 0)
+loop-holds c = (omega arith, per-task-none _ 0)
 
 mul-value-in : tie.Need-mul-value-in Inv-loop μ-loop
 mul-value-in c = omega arith
@@ -42,11 +42,11 @@ loop-less c = omega arith
 
 loop-again : tie.Need-loop-again Inv-loop μ-loop
 loop-again c =
-    (omega arith, eight-turn _ _ 0 (omega arith) (c .before .before .before .loop .inv .1) (c .value-in .ensures))
+    (omega arith, per-task-turn _ _ 0 (omega arith) (c .before .before .before .loop .inv .1) (c .value-in .ensures))
 
 returns : tie.Need-returns Inv-loop μ-loop
 returns c =
-    (eight-done _ mostTasks _ 0 (c .before .loop .inv .1) (omega arith) ∙ eight-full _ 0, c .before .before .good .0 .1 .0 .1)
+    (per-task-done _ mostTasks _ 0 (c .before .loop .inv .1) (omega arith) ∙ per-task-full _ 0, c .before .before .good .0 .1 .0 .1)
 
 pub column-of-spec : {M : Type 1} → statement M
 column-of-spec =

@@ -1,4 +1,4 @@
--- `fronts::of_ticks` answers at most the length. Assumes nothing.
+-- `fronts::of_ticks` answers at most the length.
 use native.Mathlib.Omega.{arith}
 use Rattle.fronts.proofs.Law.{front}
 use Rattle.fronts.proofs.of_ticks.Statement.{statement}

@@ -3,8 +3,8 @@ use Prim.Native.Nat.{_-_, _≤_}
 use mathlib.Core.Path.{_≡_}
 use native.Mathlib.Omega.{arith}
 use lib.IntN.{pos}
-use Rattle.paper.specs.Numbers.{eight}
-use Rattle.laws.proofs.Lists.{eight-none, eight-turn, eight-done}
+use Rattle.paper.specs.Numbers.{perTask}
+use Rattle.laws.proofs.Lists.{per-task-none, per-task-turn, per-task-done}
 use Rattle.tolerance.proofs.Machine.{kept}
 use Rattle.lengths.specs.Stages.{lengthBy}
 use Rattle.lengths.proofs.all_lengths.Statement.{statement}
@@ -12,13 +12,13 @@ use Rattle.lengths.proofs.all_lengths.Tie as tie
 
 abbrev Inv-loop : tie.InvT-loop
 Inv-loop costs priorities ticks n lengths₀ k₀ lengths k =
-    (k ≤ n) × (lengths ≡ eight k (lengthBy n costs priorities ticks) (pos 0))
+    (k ≤ n) × (lengths ≡ perTask k (lengthBy n costs priorities ticks) (pos 0))
 
 abbrev μ-loop : tie.MeasureT-loop
 μ-loop costs priorities ticks n lengths₀ k₀ lengths k = n - k
 
 loop-holds : tie.Need-loop-holds Inv-loop μ-loop
-loop-holds c = (omega arith, eight-none _ (pos 0))
+loop-holds c = (omega arith, per-task-none _ (pos 0))
 
 length-of-requires : tie.Need-length-of-requires Inv-loop μ-loop
 length-of-requires c κs =
@@ -41,11 +41,11 @@ loop-again : tie.Need-loop-again Inv-loop μ-loop
 loop-again c =
     let l = c .before .before .loop in (
       omega arith,
-      eight-turn (l .k) _ (pos 0) (omega arith) (l .inv .1) (kept (c .length-of .result) (c .length-of .ok) (c .length-of .ensures)),
+      per-task-turn (l .k) _ (pos 0) (omega arith) (l .inv .1) (kept (c .length-of .result) (c .length-of .ok) (c .length-of .ensures)),
     )
 
 returns : tie.Need-returns Inv-loop μ-loop
-returns c = eight-done (c .before .loop .k) (c .before .before .args .n) _ (pos 0) (c .before .loop .inv .1) (omega arith)
+returns c = per-task-done (c .before .loop .k) (c .before .before .args .n) _ (pos 0) (c .before .loop .inv .1) (omega arith)
 
 pub all-lengths-spec : {M : Type 1} → statement M
 all-lengths-spec =

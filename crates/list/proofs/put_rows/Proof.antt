@@ -1,4 +1,4 @@
--- `list::put_rows` stays inside both buffers, whose lengths no turn changes. The measure is what is left of the most rows. Assumes nothing.
+-- `list::put_rows` stays inside both buffers, whose lengths no turn changes. The measure is what is left of the most rows.
 use Prim.Native.Nat.{_≤_, _<_, _-_, _^_}
 use mathlib.Core.Path.{_≡_}
 use borrow.Author.Needs.{needs}

@@ -1,4 +1,4 @@
--- `numbers::number_of` goes by the same cases as its definition. Assumes nothing.
+-- `numbers::number_of` goes by the same cases as its definition.
 use mathlib.Core.Path.{ap, sym}
 use Rattle.paper.specs.Refusals.{numberOf}
 use borrow.Author.Needs.{needs}

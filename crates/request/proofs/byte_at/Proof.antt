@@ -1,4 +1,4 @@
--- `request::byte_at`: an element of a list of bytes is below 256. Assumes nothing.
+-- `request::byte_at`: an element of a list of bytes is below 256.
 use native.Mathlib.Omega.{arith}
 use borrow.Author.Needs.{needs}
 use Rattle.request.proofs.byte_at.Statement.{statement}

@@ -1,4 +1,4 @@
--- `request::table_at` fills the records after the first, one a turn. Assumes nothing.
+-- `request::table_at` fills the records after the first, one a turn.
 use Prim.Native.Nat.{_≤_, _-_}
 use mathlib.Core.Path.{_≡_}
 use borrow.Author.Needs.{needs}

@@ -1,4 +1,4 @@
--- `request::take_words` writes within the lent list, whose length no turn changes. Assumes nothing.
+-- `request::take_words` writes within the lent list, whose length no turn changes.
 use Prim.Native.Nat.{_≤_, _<_, _-_}
 use mathlib.Core.Path.{_≡_}
 use borrow.Author.Needs.{needs}

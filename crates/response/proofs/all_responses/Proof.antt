@@ -3,15 +3,15 @@ use Prim.Native.Nat.{_-_, _≤_}
 use mathlib.Core.Path.{_≡_, ap, _∙_}
 use native.Mathlib.Omega.{arith}
 use borrow.Author.Needs.{needs}
-use Rattle.paper.specs.Numbers.{eight}
+use Rattle.paper.specs.Numbers.{perTask}
 use Rattle.paper.specs.Answers.{noTime}
-use Rattle.laws.proofs.Lists.{eight-none, eight-turn, eight-done}
+use Rattle.laws.proofs.Lists.{per-task-none, per-task-turn, per-task-done}
 use Rattle.response.specs.Stands.{answerBy}
 use Rattle.response.proofs.all_responses.Statement.{statement}
 use Rattle.response.proofs.all_responses.Tie as tie
 
 abbrev Inv-loop : tie.InvT-loop
-Inv-loop n c t p h times₀ i₀ times i = (i ≤ n) × (times ≡ eight i (answerBy n c t p h) noTime)
+Inv-loop n c t p h times₀ i₀ times i = (i ≤ n) × (times ≡ perTask i (answerBy n c t p h) noTime)
 
 abbrev μ-loop : tie.MeasureT-loop
 μ-loop n c t p h times₀ i₀ times i = n - i
@@ -20,7 +20,7 @@ no-times-requires : tie.Need-no-times-requires Inv-loop μ-loop
 no-times-requires c κs = tt
 
 loop-holds : tie.Need-loop-holds Inv-loop μ-loop
-loop-holds c = (search needs, c .no-times .ensures ∙ eight-none _ _)
+loop-holds c = (search needs, c .no-times .ensures ∙ per-task-none _ _)
 
 response-requires : tie.Need-response-requires Inv-loop μ-loop
 response-requires c κs = (c .before .before .before .pre, c .loop-test .taken)
@@ -40,10 +40,10 @@ loop-less c = search needs
 loop-again : tie.Need-loop-again Inv-loop μ-loop
 loop-again c =
     let l = c .before .before .loop in
-    (search needs, eight-turn (l .i) _ _ (omega arith) (l .inv .1) (ap (λ r. record { time = r }) (c .response .ensures)))
+    (search needs, per-task-turn (l .i) _ _ (omega arith) (l .inv .1) (ap (λ r. record { time = r }) (c .response .ensures)))
 
 returns : tie.Need-returns Inv-loop μ-loop
-returns c = eight-done _ (c .before .before .before .args .n) _ _ (c .before .loop .inv .1) (omega arith)
+returns c = per-task-done _ (c .before .before .before .args .n) _ _ (c .before .loop .inv .1) (omega arith)
 
 pub all-responses-spec : {M : Type 1} → statement M
 all-responses-spec =

@@ -4,20 +4,20 @@ use mathlib.Core.Path.{_≡_, ap, _∙_}
 use native.Mathlib.Numerals.{add-one}
 use native.Mathlib.Omega.{arith}
 use lib.ListN.{take}
-use Rattle.paper.specs.Numbers.{eight}
+use Rattle.paper.specs.Numbers.{perTask}
 use Rattle.paper.specs.Rows.{placeOf}
-use Rattle.laws.proofs.Lists.{eight-none, eight-turn, eight-done}
+use Rattle.laws.proofs.Lists.{per-task-none, per-task-turn, per-task-done}
 use Rattle.rows.proofs.priorities_of.Statement.{statement}
 use Rattle.rows.proofs.priorities_of.Tie as tie
 
 abbrev Inv-loop : tie.InvT-loop
-Inv-loop d n xs₀ k₀ xs k = (k ≤ n) × (xs ≡ eight k (λ j. placeOf (take n d) (suc j)) 0)
+Inv-loop d n xs₀ k₀ xs k = (k ≤ n) × (xs ≡ perTask k (λ j. placeOf (take n d) (suc j)) 0)
 
 abbrev μ-loop : tie.MeasureT-loop
 μ-loop d n xs₀ k₀ xs k = n - k
 
 loop-holds : tie.Need-loop-holds Inv-loop μ-loop
-loop-holds c = (omega arith, eight-none _ 0)
+loop-holds c = (omega arith, per-task-none _ 0)
 
 add-place-of : tie.Need-add-place-of Inv-loop μ-loop
 add-place-of c = omega arith
@@ -40,11 +40,11 @@ loop-less c = omega arith
 loop-again : tie.Need-loop-again Inv-loop μ-loop
 loop-again c = (
   omega arith,
-  eight-turn _ _ 0 (omega arith) (c .before .before .loop .inv .1) (c .place-of .ensures ∙ ap (placeOf _) (add-one _)),
+  per-task-turn _ _ 0 (omega arith) (c .before .before .loop .inv .1) (c .place-of .ensures ∙ ap (placeOf _) (add-one _)),
 )
 
 returns : tie.Need-returns Inv-loop μ-loop
-returns c = eight-done _ _ _ 0 (c .before .loop .inv .1) (omega arith)
+returns c = per-task-done _ _ _ 0 (c .before .loop .inv .1) (omega arith)
 
 pub priorities-of-spec : {M : Type 1} → statement M
 priorities-of-spec =

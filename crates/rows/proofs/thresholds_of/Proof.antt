@@ -4,19 +4,19 @@ use mathlib.Core.Path.{_≡_}
 use native.Mathlib.Omega.{arith}
 use borrow.Author.Needs.{needs}
 use lib.ListN.{getD}
-use Rattle.paper.specs.Numbers.{eight}
-use Rattle.laws.proofs.Lists.{eight-none, eight-turn, eight-done}
+use Rattle.paper.specs.Numbers.{perTask}
+use Rattle.laws.proofs.Lists.{per-task-none, per-task-turn, per-task-done}
 use Rattle.rows.proofs.thresholds_of.Statement.{statement}
 use Rattle.rows.proofs.thresholds_of.Tie as tie
 
 abbrev Inv-loop : tie.InvT-loop
-Inv-loop d n xs₀ k₀ xs k = (k ≤ n) × (xs ≡ eight k (λ j. getD d (n + j) 0) 0)
+Inv-loop d n xs₀ k₀ xs k = (k ≤ n) × (xs ≡ perTask k (λ j. getD d (n + j) 0) 0)
 
 abbrev μ-loop : tie.MeasureT-loop
 μ-loop d n xs₀ k₀ xs k = n - k
 
 loop-holds : tie.Need-loop-holds Inv-loop μ-loop
-loop-holds c = (omega arith, eight-none _ 0)
+loop-holds c = (omega arith, per-task-none _ 0)
 
 add-wide : tie.Need-add-wide Inv-loop μ-loop
 add-wide c = omega arith
@@ -40,10 +40,10 @@ loop-less : tie.Need-loop-less Inv-loop μ-loop
 loop-less c = omega arith
 
 loop-again : tie.Need-loop-again Inv-loop μ-loop
-loop-again c = (omega arith, eight-turn _ _ 0 (omega arith) (c .before .before .before .loop .inv .1) (c .wide .ensures .0))
+loop-again c = (omega arith, per-task-turn _ _ 0 (omega arith) (c .before .before .before .loop .inv .1) (c .wide .ensures .0))
 
 returns : tie.Need-returns Inv-loop μ-loop
-returns c = eight-done _ _ _ 0 (c .before .loop .inv .1) (omega arith)
+returns c = per-task-done _ _ _ 0 (c .before .loop .inv .1) (omega arith)
 
 pub thresholds-of-spec : {M : Type 1} → statement M
 thresholds-of-spec =

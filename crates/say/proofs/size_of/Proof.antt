@@ -1,4 +1,4 @@
--- `say::size_of` gives the absolute value, also at the lowest number. Assumes nothing.
+-- `say::size_of` gives the absolute value, also at the lowest number.
 use mathlib.Core.Path.{ap}
 use lib.IntN.{natAbs}
 use mir.Facts.{toZ-ofZ}

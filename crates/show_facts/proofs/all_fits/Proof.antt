@@ -1,4 +1,4 @@
--- `show_facts::all_fits` fills the places one by one; the measure is the number that is left. Assumes nothing.
+-- `show_facts::all_fits` fills the places one by one; the measure is the number that is left.
 use Prim.Native.Nat.{_≤_, _-_}
 use mathlib.Core.Path.{_≡_}
 use borrow.Author.Needs.{needs}

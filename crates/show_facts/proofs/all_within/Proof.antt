@@ -1,4 +1,4 @@
--- `show_facts::all_within` ends: the measure is the number of words that are left. Assumes nothing.
+-- `show_facts::all_within` ends: the measure is the number of words that are left.
 use Prim.Native.Nat.{_≤_, _-_}
 use borrow.Author.Needs.{needs}
 use lib.ListN.{length}

@@ -1,4 +1,4 @@
--- `show_facts::first_unfit` ends: the measure is the number of places that are left. Assumes nothing.
+-- `show_facts::first_unfit` ends: the measure is the number of places that are left.
 use Prim.Native.Nat.{_≤_, _-_}
 use borrow.Author.Needs.{needs}
 use Rattle.paper.specs.Numbers.{mostTasks}

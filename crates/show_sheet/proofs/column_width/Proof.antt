@@ -1,4 +1,4 @@
--- `show_sheet::column_width` ends: the measure is the number of jobs that are left. Assumes nothing.
+-- `show_sheet::column_width` ends: the measure is the number of jobs that are left.
 use Prim.Native.Nat.{_≤_, _-_}
 use borrow.Author.Needs.{needs}
 use Rattle.paper.specs.Numbers.{mostTasks}

@@ -1,4 +1,4 @@
--- `show_sheet::put_column_headings` stays inside the buffer, whose length no turn changes. There are ten columns. Assumes nothing.
+-- `show_sheet::put_column_headings` stays inside the buffer, whose length no turn changes. There are ten columns.
 use Prim.Native.Nat.{_≤_, _-_}
 use mathlib.Core.Path.{_≡_}
 use borrow.Author.Needs.{needs}

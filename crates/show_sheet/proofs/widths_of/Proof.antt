@@ -1,4 +1,4 @@
--- `show_sheet::widths_of` fills the ten columns one by one. Assumes nothing.
+-- `show_sheet::widths_of` fills the ten columns one by one.
 use Prim.Native.Nat.{_≤_, _-_}
 use mathlib.Core.Path.{_≡_}
 use borrow.Author.Needs.{needs}

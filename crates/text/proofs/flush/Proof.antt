@@ -1,4 +1,4 @@
--- `text::flush` writes a front of the buffer, whose length is the place. Assumes nothing.
+-- `text::flush` writes a front of the buffer, whose length is the place.
 use mathlib.Core.Path.{sym}
 use borrow.Author.Needs.{needs}
 use lib.Seq.{length-take-le}

@@ -4,9 +4,9 @@ use mathlib.Core.Path.{_≡_, _∙_}
 use mathlib.Core.List.{[]}
 use native.Mathlib.Omega.{arith}
 use lib.IntN.{pos}
-use Rattle.paper.specs.Numbers.{eight}
+use Rattle.paper.specs.Numbers.{perTask}
 use Rattle.paper.specs.Lengths.{tolerance}
-use Rattle.laws.proofs.Lists.{eight-none, eight-turn, eight-done}
+use Rattle.laws.proofs.Lists.{per-task-none, per-task-turn, per-task-done}
 use Rattle.columns.specs.Columns.{tasksBy, assignedBy}
 use Rattle.tolerance.proofs.Machine.{kept}
 use Rattle.tolerance.proofs.all_tolerances.Statement.{statement}
@@ -14,13 +14,13 @@ use Rattle.tolerance.proofs.all_tolerances.Tie as tie
 
 abbrev Inv-loop : tie.InvT-loop
 Inv-loop costs periods deadlines priorities n ticks₀ i₀ ticks i =
-    (i ≤ n) × (ticks ≡ eight i (tolerance (tasksBy n costs periods deadlines) (assignedBy priorities [])) (pos 0))
+    (i ≤ n) × (ticks ≡ perTask i (tolerance (tasksBy n costs periods deadlines) (assignedBy priorities [])) (pos 0))
 
 abbrev μ-loop : tie.MeasureT-loop
 μ-loop costs periods deadlines priorities n ticks₀ i₀ ticks i = n - i
 
 loop-holds : tie.Need-loop-holds Inv-loop μ-loop
-loop-holds c = (omega arith, eight-none _ (pos 0))
+loop-holds c = (omega arith, per-task-none _ (pos 0))
 
 tolerance-of-requires : tie.Need-tolerance-of-requires Inv-loop μ-loop
 tolerance-of-requires c κs = (c .before .before .pre, c .loop-test .taken)
@@ -44,12 +44,12 @@ loop-again : tie.Need-loop-again Inv-loop μ-loop
 loop-again c =
     let l = c .before .before .before .loop in (
       omega arith,
-      eight-turn (l .i) _ (pos 0) (omega arith) (l .inv .1)
+      per-task-turn (l .i) _ (pos 0) (omega arith) (l .inv .1)
           (kept (c .signed .result) (c .signed .ok) (c .signed .ensures ∙ c .before .tolerance-of .ensures .value)),
     )
 
 returns : tie.Need-returns Inv-loop μ-loop
-returns c = eight-done (c .before .loop .i) (c .before .before .args .n) _ (pos 0) (c .before .loop .inv .1) (omega arith)
+returns c = per-task-done (c .before .loop .i) (c .before .before .args .n) _ (pos 0) (c .before .loop .inv .1) (omega arith)
 
 pub all-tolerances-spec : {M : Type 1} → statement M
 all-tolerances-spec =

@@ -3,7 +3,7 @@ use Prim.Native.Nat.{_-_, _≤_}
 use mathlib.Core.Path.{_≡_, refl}
 use native.Mathlib.Omega.{arith}
 use Rattle.paper.specs.File.{recordsIn}
-use Rattle.laws.proofs.Lists.{eight-none, eight-turn, eight-done}
+use Rattle.laws.proofs.Lists.{per-task-none, per-task-turn, per-task-done}
 use borrow.Author.Needs.{needs}
 use Rattle.unpack.proofs.table_in.Statement.{statement}
 use Rattle.unpack.proofs.table_in.Tie as tie
@@ -18,7 +18,7 @@ zero-record-requires : tie.Need-zero-record-requires Inv-loop μ-loop
 zero-record-requires c κs = search needs
 
 loop-holds : tie.Need-loop-holds Inv-loop μ-loop
-loop-holds c = (omega arith, rw (c .zero-record .ensures) (eight-none _ _))
+loop-holds c = (omega arith, rw (c .zero-record .ensures) (per-task-none _ _))
 
 record-in-requires : tie.Need-record-in-requires Inv-loop μ-loop
 record-in-requires c κs = omega arith
@@ -37,10 +37,10 @@ loop-less c = omega arith
 
 loop-again : tie.Need-loop-again Inv-loop μ-loop
 loop-again c =
-    (omega arith, eight-turn (c .before .before .loop .k) _ _ (omega arith) (c .before .before .loop .inv .1) (c .record-in .ensures))
+    (omega arith, per-task-turn (c .before .before .loop .k) _ _ (omega arith) (c .before .before .loop .inv .1) (c .record-in .ensures))
 
 returns : tie.Need-returns Inv-loop μ-loop
-returns c = (refl, eight-done (c .before .loop .k) _ _ _ (c .before .loop .inv .1) (omega arith))
+returns c = (refl, per-task-done (c .before .loop .k) _ _ _ (c .before .loop .inv .1) (omega arith))
 
 pub table-in-spec : {M : Type 1} → statement M
 table-in-spec =
