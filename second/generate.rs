@@ -95,11 +95,15 @@ fn write(cabinet: &Cabinet, file: &mut [u8]) -> Result<usize, Refusal> {
     )
 }
 
-/// Plate and file for the listing's program, five plate bytes first.
+/// Plate and file for the listing's program, five plate bytes first. Two in three files are whole.
 pub fn input(random: &mut Random) -> Vec<u8> {
-    let most = if random.once_in(8) { 5 } else { 4 };
+    let most = random.one_of(&[3, 4, 4, 5, 5, 6]);
     let mut cabinet = cabinet(random, most, 0);
-    let file = any_file(random, &mut cabinet);
+    let file = if random.once_in(3) {
+        any_file(random, &mut cabinet)
+    } else {
+        whole_file(&cabinet)
+    };
     let mut input = cabinet.plate.cabinet.to_be_bytes()[1..].to_vec();
     input.extend(cabinet.plate.line.to_be_bytes());
     input.extend(file);
@@ -326,18 +330,26 @@ fn spoil(random: &mut Random, cabinet: &mut Cabinet, with_regions: bool) {
     }
 }
 
+/// The cabinet's file; no bytes where the writer turns it away.
+fn whole_file(cabinet: &Cabinet) -> Vec<u8> {
+    let mut file = vec![0; 400];
+    let length = write(cabinet, &mut file).unwrap_or(0);
+    file.truncate(length);
+    file
+}
+
 /// The cabinet's file, whole, or wrong in one of many ways; the plate may be another's.
 fn any_file(random: &mut Random, cabinet: &mut Cabinet) -> Vec<u8> {
     if random.once_in(12) {
         cabinet.own.resize(random.one_of(&[99, 100]), 1);
     }
-    let mut file = vec![0; 400];
-    let Ok(length) = write(cabinet, &mut file) else {
+    let mut file = whole_file(cabinet);
+    let length = file.len();
+    if length == 0 {
         return (0..random.from(0, 60))
             .map(|_| random.from(0, 255) as u8)
             .collect();
-    };
-    file.truncate(length);
+    }
     match random.from(0, 9) {
         0 => cabinet.plate.line ^= 1 << random.from(0, 15),
         1 => cabinet.plate.cabinet ^= 1 << random.from(0, 24),
