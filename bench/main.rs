@@ -48,7 +48,7 @@ mod core {
             out_len: usize,
         ) -> u64;
         pub fn bench_times(table: *const u8, table_len: usize) -> u64;
-        pub fn bench_tolerances(table: *const u8, table_len: usize) -> u64;
+        pub fn bench_tolerances(table: *const u8, table_len: usize) -> i64;
         pub fn bench_passes(
             n: usize,
             c: &[u64; MOST_TASKS],
@@ -64,6 +64,8 @@ const PLATE: Plate = Plate {
     cabinet: 70_001,
     line: 12,
 };
+
+const LONGEST_FILE: usize = 356;
 
 fn main() {
     println!("| work | core | second | ratio |\n|---|---|---|---|");
@@ -93,9 +95,9 @@ fn reading_and_writing() {
         };
     }
     let own = vec![1; 100];
-    let mut made = vec![0; 356];
+    let mut made = vec![0; LONGEST_FILE];
     let length = file::write(PLATE, &table, &own, &[], &mut made).expect("it is a legal table");
-    assert_eq!(length, 356);
+    assert_eq!(length, LONGEST_FILE);
     let mut words = vec![0u32; 100];
     let read_core = measure(20_000, || unsafe {
         core::bench_read(
@@ -115,7 +117,7 @@ fn reading_and_writing() {
     say("read, 8 tasks and 100 regions", read_core, read_second);
 
     let bytes = table_bytes(&table);
-    let mut file_core = vec![0u8; 356];
+    let mut file_core = vec![0u8; LONGEST_FILE];
     let write_core = measure(20_000, || unsafe {
         core::bench_write(
             bytes.as_ptr(),
@@ -123,10 +125,10 @@ fn reading_and_writing() {
             own.as_ptr(),
             own.len(),
             file_core.as_mut_ptr(),
-            356,
+            LONGEST_FILE,
         )
     });
-    let mut file_second = vec![0u8; 356];
+    let mut file_second = vec![0u8; LONGEST_FILE];
     let write_second = measure(20_000, || {
         file::write(PLATE, black_box(&table), &own, &[], &mut file_second).is_ok() as u64
     });
@@ -157,6 +159,7 @@ fn analysis_of(n: usize) {
             })
             .sum()
     });
+    assert_eq!(times_core.1, times_second.1);
     say(
         &format!("response times, 200 random tables of {n}"),
         times_core,
@@ -183,6 +186,7 @@ fn analysis_of(n: usize) {
             .map(|y| analysis::passes(black_box(y)) as u64)
             .sum()
     });
+    assert_eq!(passes_core.1, passes_second.1);
     say(
         &format!("pass test, 200 random tables of {n}"),
         passes_core,
@@ -213,14 +217,13 @@ fn tolerance_of_a_long_deadline() {
     }
     let bytes = table_bytes(&table);
     let core = measure(50, || unsafe {
-        core::bench_tolerances(bytes.as_ptr(), bytes.len())
+        core::bench_tolerances(bytes.as_ptr(), bytes.len()) as u64
     });
     let second = measure(50, || {
-        lengths::tolerances(black_box(&table))
-            .expect("assigned")
-            .iter()
-            .sum::<i64>() as u64
+        let tolerances = lengths::tolerances(black_box(&table)).expect("assigned");
+        tolerances[table.n as usize - 1] as u64
     });
+    assert_eq!(core.1, second.1);
     say(
         "tolerances, deadline 1,000,000 below seven tasks",
         core,
@@ -263,7 +266,7 @@ fn measure(times: u32, mut call: impl FnMut() -> u64) -> (Duration, u64) {
         let start = Instant::now();
         sum = 0;
         for _ in 0..times {
-            sum += black_box(call());
+            sum = black_box(call()).wrapping_add(sum);
         }
         best = best.min(start.elapsed() / times);
     }

@@ -10,7 +10,6 @@ use crate::{analysis, file, lengths, listing, parts};
 use std::fmt::{Display, Write as _};
 use std::io::{self, BufRead, BufReader, Read, Write};
 
-const LONGEST_BODY: usize = 4096;
 /// Every byte of an output is filled with this before it is lent.
 const FILL: u8 = 0xA5;
 

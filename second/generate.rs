@@ -57,7 +57,7 @@ pub fn stream(seed: u64, count: u64, out: &mut impl FnMut(&[u8])) {
 
 /// A request whose body is too long for the protocol is left out.
 fn put_request(kind: u8, body: &[u8], out: &mut impl FnMut(&[u8])) {
-    if body.len() > 4096 {
+    if body.len() > LONGEST_BODY {
         return;
     }
     let mut request = vec![kind];
@@ -68,12 +68,15 @@ fn put_request(kind: u8, body: &[u8], out: &mut impl FnMut(&[u8])) {
 
 /// One file that reads, cut at every length, and one byte longer.
 fn every_cut(random: &mut Random, out: &mut impl FnMut(&[u8])) {
-    let cabinet = cabinet(random, 8, 10);
-    let mut file = vec![0; 400];
-    let Ok(length) = write(&cabinet, &mut file) else {
-        return;
+    let (cabinet, mut file) = loop {
+        let cabinet = cabinet(random, MOST_TASKS as u32, 10);
+        let file = whole_file(&cabinet);
+        if !file.is_empty() {
+            break (cabinet, file);
+        }
     };
-    for cut in 0..=length + 1 {
+    file.push(0);
+    for cut in 0..=file.len() {
         for kind in [1, 9] {
             let mut body = Vec::new();
             put_plate(&mut body, cabinet.plate);
@@ -118,7 +121,7 @@ pub fn input(random: &mut Random) -> Vec<u8> {
 
 fn body(random: &mut Random, kind: u8) -> Vec<u8> {
     // A row is searched for, so few tasks there.
-    let most = if kind == 7 || kind == 8 { 4 } else { 8 };
+    let most = if kind == 7 || kind == 8 { 4 } else { MOST_TASKS as u32 };
     let mut cabinet = cabinet(random, most, 10);
     let mut body = Vec::new();
     match kind {
@@ -135,7 +138,7 @@ fn body(random: &mut Random, kind: u8) -> Vec<u8> {
         2 => {
             spoil(random, &mut cabinet, true);
             put_plate(&mut body, cabinet.plate);
-            let size = file::length(cabinet.table.n.min(8) as usize, cabinet.own.len()) as u32;
+            let size = file::length((cabinet.table.n as usize).min(MOST_TASKS), cabinet.own.len()) as u32;
             put_two(
                 &mut body,
                 random.one_of(&[0, size - 1, size, size, size, size + 3, 400]),
@@ -304,7 +307,7 @@ fn spoil(random: &mut Random, cabinet: &mut Cabinet, with_regions: bool) {
                     random.one_of(&[0, 1, record.priority, record.priority.wrapping_add(1), edge])
             }
             5 => record.name = edge,
-            6 => cabinet.table.n = random.one_of(&[0, 1, n, 8, 9, 255]),
+            6 => cabinet.table.n = random.one_of(&[0, 1, n, MOST_TASKS as u8, MOST_TASKS as u8 + 1, 255]),
             7 => {
                 cabinet.plate.cabinet =
                     random.one_of(&[0, MOST_CABINET, MOST_CABINET + 1, u32::MAX])
@@ -332,7 +335,7 @@ fn spoil(random: &mut Random, cabinet: &mut Cabinet, with_regions: bool) {
 
 /// The cabinet's file; no bytes where the writer turns it away.
 fn whole_file(cabinet: &Cabinet) -> Vec<u8> {
-    let mut file = vec![0; 400];
+    let mut file = vec![0; file::length(MOST_TASKS, MOST_REGION_WORDS)];
     let length = write(cabinet, &mut file).unwrap_or(0);
     file.truncate(length);
     file

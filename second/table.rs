@@ -9,6 +9,8 @@ pub const MOST_NAME_NUMBER: u32 = 127;
 pub const MOST_REGION_PLACE: u32 = 127;
 /// Cabinets have 24 bits.
 pub const MOST_CABINET: u32 = (1 << 24) - 1;
+/// The longest body of a request (docs/ASK.md).
+pub const LONGEST_BODY: usize = 4096;
 
 /// Where a task's regions stand (document 01, "The file, bit by bit": 0 own, 1 catalogue).
 #[derive(Clone, Copy, Debug, Default, PartialEq, Eq)]

@@ -27,6 +27,8 @@ const TWO_JOBS: Sample = sample!("two-jobs");
 const TWO_JOBS_ASSIGNED: Sample = sample!("two-jobs-assigned");
 const DAMAGED: Sample = sample!("damaged");
 const PACKER_SIX: Sample = sample!("packer-six");
+const LIGHT_SIX: Sample = sample!("light-six");
+const TIGHT_SIX: Sample = sample!("tight-six");
 const PRESS_EIGHT: Sample = sample!("press-eight");
 const PRESS_EIGHT_CATALOGUE: &str = include_str!("../../samples/press-eight.catalogue");
 const CABINET_NAMES: &[u8] = include_bytes!("../../samples/cabinet.names");
@@ -67,6 +69,8 @@ fn made_from_their_descriptions() {
         TWO_JOBS_ASSIGNED,
         DAMAGED,
         PACKER_SIX,
+        LIGHT_SIX,
+        TIGHT_SIX,
         PRESS_EIGHT,
     ] {
         assert_eq!(
@@ -117,6 +121,27 @@ fn packer_six() {
     let text = listed(&PACKER_SIX);
     assert!(text.contains("\n1 2 3 4 5 6 1 2 3 2 3 5\n") && text.ends_with("\nend 546\n"));
     assert_eq!(text.lines().count(), 548);
+}
+
+/// How many rows a sample lists, which is what it says at the end.
+fn rows(sample: &Sample) -> usize {
+    let text = listed(sample);
+    let rows = text.lines().count() - 2;
+    assert!(text.ends_with(&format!("\nend {rows}\n")));
+    rows
+}
+
+const ROWS_OF_SIX: usize = 720 * 720;
+
+#[test]
+fn light_six() {
+    assert_eq!(rows(&LIGHT_SIX), ROWS_OF_SIX);
+}
+
+#[test]
+fn tight_six() {
+    let rows = rows(&TIGHT_SIX);
+    assert!(ROWS_OF_SIX * 3 / 10 < rows && rows < ROWS_OF_SIX * 4 / 10);
 }
 
 #[test]

@@ -1,12 +1,11 @@
-// Answers a stream of requests from standard input (docs/ASK.md): every public call of the core, and on one line each
-// answer with the whole of the memory that was lent.
+// Answers a stream of requests from standard input (docs/ASK.md): the calls of the core, and on one line each answer with
+// the whole of the memory that was lent.
 ghost use Prim.Native.Nat.{_≤_};
 ghost use lib.ListN.{length};
+use request::LONGEST_BODY;
 
 // A number that no run uses up.
 const MOST_REQUESTS: u64 = 18446744073709551615;
-
-const LONGEST_BODY: usize = 4096;
 
 // The line of a bad request, after which the program ends.
 fn bad(buf: &mut [u8]) -> bool {

@@ -10,6 +10,7 @@ use paper::Table;
 use paper::WriteAnswer;
 use request::FILL;
 use request::FILL_WORD;
+use request::MOST_BODY_WORDS;
 use request::TABLE_BYTES;
 
 fn source_bit(source: Source) -> u32 {
@@ -79,7 +80,7 @@ fn read_into(buf: &mut [u8], body: &[u8], out: &mut [u32]) -> usize
     let cabinet = request::cabinet_at(body, 0);
     let line = request::line_at(body, 4);
     let file = request::bytes_at(body, request::words_end(body, 8));
-    let mut catalogue = [0u32; 1024];
+    let mut catalogue = [0u32; MOST_BODY_WORDS];
     let m = request::take_words(body, 8, &mut catalogue);
     let answer = reader::read(file, cabinet, line, &catalogue[..m], out);
     let said = put_read(buf, answer);
@@ -110,9 +111,9 @@ fn write_into(buf: &mut [u8], body: &[u8], out: &mut [u8]) -> usize
     let cabinet = request::cabinet_at(body, 0);
     let line = request::line_at(body, 4);
     let t = request::table_at(body, 8);
-    let mut own = [0u32; 1024];
+    let mut own = [0u32; MOST_BODY_WORDS];
     let m = request::take_words(body, OWN, &mut own);
-    let mut catalogue = [0u32; 1024];
+    let mut catalogue = [0u32; MOST_BODY_WORDS];
     let k = request::take_words(body, request::words_end(body, OWN), &mut catalogue);
     let answer = writer::write(t, cabinet, line, &own[..m], &catalogue[..k], out);
     let said = put_written(buf, answer);

@@ -2,6 +2,7 @@
 ghost use Prim.Native.Nat.{_≤_};
 ghost use lib.ListN.{length};
 use paper::Outcome;
+use request::MOST_BODY_WORDS;
 use request::TABLE_BYTES;
 
 // A part in hexadecimal, or a refusal.
@@ -36,7 +37,7 @@ pub fn record(buf: &mut [u8], body: &[u8]) -> usize
     let line = request::line_at(body, 4);
     let number = request::two_at(body, 6);
     let file = request::bytes_at(body, request::words_end(body, 8));
-    let mut catalogue = [0u32; 1024];
+    let mut catalogue = [0u32; MOST_BODY_WORDS];
     let m = request::take_words(body, 8, &mut catalogue);
     let outcome = parts::record_outcome(file, cabinet, line, &catalogue[..m], number);
     let part = parts::record_bytes(file, cabinet, line, &catalogue[..m], number);
@@ -50,9 +51,9 @@ pub fn regions(buf: &mut [u8], body: &[u8]) -> usize
 {
     let number = request::two_at(body, 0);
     let t = request::table_at(body, 2);
-    let mut own = [0u32; 1024];
+    let mut own = [0u32; MOST_BODY_WORDS];
     let m = request::take_words(body, OWN, &mut own);
-    let mut catalogue = [0u32; 1024];
+    let mut catalogue = [0u32; MOST_BODY_WORDS];
     let k = request::take_words(body, request::words_end(body, OWN), &mut catalogue);
     let outcome = parts::regions_outcome(t, &own[..m], &catalogue[..k], number);
     let part = parts::regions_words(t, &own[..m], &catalogue[..k], number);

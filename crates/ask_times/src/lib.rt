@@ -7,6 +7,7 @@ use paper::Outcome;
 use paper::Response;
 use paper::TicksAnswer;
 use paper::Time;
+use request::MOST_BODY_WORDS;
 use request::TABLE_BYTES;
 
 fn put_time(buf: &mut [u8], at: usize, time: Time) -> usize
@@ -102,9 +103,9 @@ pub fn region_check(buf: &mut [u8], body: &[u8]) -> usize
     ensures { λ r. ⌜ r ≤ length (now (buf .entry)) ⌝ }
 {
     let t = request::table_at(body, 0);
-    let mut own = [0u32; 1024];
+    let mut own = [0u32; MOST_BODY_WORDS];
     let m = request::take_words(body, TABLE_BYTES, &mut own);
-    let mut catalogue = [0u32; 1024];
+    let mut catalogue = [0u32; MOST_BODY_WORDS];
     let k = request::take_words(body, request::words_end(body, TABLE_BYTES), &mut catalogue);
     put_fit(buf, lengths::region_check(t, &own[..m], &catalogue[..k]))
 }

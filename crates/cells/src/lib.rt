@@ -108,7 +108,7 @@ pub fn put_cell(buf: &mut [u8], at: usize, cell: Cell, width: usize) -> usize
 }
 
 // A refusal in words.
-pub fn put_words_of(buf: &mut [u8], at: usize, r: Refusal) -> usize
+fn put_reason(buf: &mut [u8], at: usize, r: Refusal) -> usize
     requires { ⌜ at ≤ length (now buf) ⌝ }
     ensures { λ x. ⌜ x ≤ length (now (buf .entry)) ⌝ }
 {
@@ -159,6 +159,6 @@ pub fn put_refused(buf: &mut [u8], at: usize, r: Refusal) -> usize
 {
     let numbered = say::count(buf, at, b"refused", numbers::number_of(r));
     let colon = say::word(buf, numbered, b": ");
-    let told = put_words_of(buf, colon, r);
+    let told = put_reason(buf, colon, r);
     say::newline(buf, told)
 }

@@ -19,7 +19,7 @@ pub struct Equation {
     pub edge: u64,
 }
 
-// Jobs asked for before x.
+// Jobs asked for before x. All numbers here fit 32 bits, in which many machines divide far quicker.
 pub fn arrived(x: u64, t: u64) -> u64
     requires { ⌜ (x ≤ horizon + 1) × (1 ≤ t) × (t ≤ mostTicks) ⌝ }
     ensures { λ r. ⌜ r ≡ ceilDiv x t ⌝ }

@@ -13,7 +13,7 @@ pub enum Column {
     Threshold,
 }
 
-pub fn value_in(which: Column, r: Record) -> u64
+fn value_in(which: Column, r: Record) -> u64
     ensures { λ x. ⌜ x ≡ valueIn which r ⌝ }
 {
     match which {

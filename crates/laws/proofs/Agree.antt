@@ -1,10 +1,11 @@
--- The analysis looks at the tasks below n alone: equal numbers there give equal answers.
+-- The analysis, and the check of an assignment, look at the tasks below n alone: equal numbers there give equal answers.
 use Prim.Native.Nat.{ℕ, zero, suc, _+_, _-_, _*_, _<_}
 use mathlib.Core.Path.{_≡_, refl, ap, ap₂, _∙_}
-use mathlib.Core.Bool.{Bool, cond, _&&_}
+use mathlib.Core.Bool.{Bool, not, cond, _&&_}
+use native.Mathlib.Omega.{arith}
 use lib.Dec.{leb, ltb, eqb}
 use Rattle.paper.specs.Vocabulary.{every, ceilDiv}
-use Rattle.paper.specs.Numbers.{horizon, Assignment}
+use Rattle.paper.specs.Numbers.{horizon, eachOnce, Assignment, thresholdsHold}
 use Rattle.paper.specs.Analysis.{Tasks, Standing, before, by, started, load, blocks, blocking, standing, levelSum, levelOf, startSum, startOf, finishSum, finishOf, finishFrom, job, later, worst, worstFrom, response, within, taskPasses, passes}
 use Rattle.paper.specs.declared.Time.{Time}
 use Rattle.paper.specs.declared.Time.the-variants.{At, Beyond}
@@ -133,3 +134,16 @@ module _ (y z : Tasks) (a b : Assignment) (w : SameTasks y z) (v : SameAssignmen
   passes-agree =
       every-same (y .n) _ _ (λ i l. ap₂ within (response-agree i l) (w .d i l))
       ∙ ap (λ n. every n (taskPasses z b)) (w .n)
+
+-- and so does the check of an assignment
+pub each-once-same : (n : ℕ) (f g : ℕ → ℕ) → ((k : ℕ) → k < n → f k ≡ g k) → eachOnce n f ≡ eachOnce n g
+unfolding eachOnce
+each-once-same n f g h =
+    ap₂ _&&_
+    (every-same n _ _ (λ k l. ap (λ (x : ℕ). leb 1 x && leb x n) (h k l)))
+    (every-same n _ _ (λ k l. every-same k _ _ (λ j m. ap₂ (λ (x y : ℕ). not (eqb x y)) (h j (omega arith)) (h k l))))
+
+pub thresholds-same : (n : ℕ) (a b : Assignment) → ((k : ℕ) → k < n → a .p k ≡ b .p k) → ((k : ℕ) → k < n → a .h k ≡ b .h k)
+    → thresholdsHold n a ≡ thresholdsHold n b
+unfolding thresholdsHold
+thresholds-same n a b p h = every-same n _ _ (λ k l. ap₂ (λ (x y : ℕ). leb 1 x && leb x y) (h k l) (p k l))

@@ -34,11 +34,6 @@ module _ (y : Tasks) (j : ℕ) where
         let f : 1 + x / y .t j ≡ x / y .t j + 1 = omega arith in
         rw (e, f) (sym (add-div-right x h))
 
-    -- the first at 0
-    pub before-first : (x : ℕ) → 1 ≤ x → 1 ≤ before y x j
-    unfolding before
-    before-first x l = le-div-iff-mul-le h .1 (rw one-mul (omega arith))
-
 module _ (y : Tasks) (set : ℕ → Bool) where
   pub load-same : (f g : ℕ → ℕ) → ((j : ℕ) → j < y .n → f j ≡ g j) → load y set f ≡ load y set g
   unfolding load

@@ -12,6 +12,7 @@ use Rattle.paper.specs.Numbers.{horizon}
 use Rattle.paper.specs.Analysis.{least}
 use Rattle.paper.specs.declared.Time.{Time}
 use Rattle.paper.specs.declared.Time.the-variants.{At, Beyond}
+use Rattle.paper.proofs.Searched.{searched}
 
 -- the search
 
@@ -56,25 +57,6 @@ least-beyond test from zero miss = refl
 least-beyond test from (suc n) miss =
     least-miss test from n (miss from (le-refl from) (omega arith))
     ∙ least-beyond test (suc from) n (λ y a b. miss y (omega arith) (omega arith))
-
--- what is found lies in the range and passes
-pub record Taken (test : ℕ → Bool) (from n x : ℕ) : Type 0 where
-  pub low : from ≤ x
-  pub high : x < from + n
-  pub hit : test x ≡ true
-
-pub taken : (test : ℕ → Bool) (from n x : ℕ) → least test from n ≡ At x → Taken test from n x
-unfolding least
-taken test from zero x e = let z : _≡_ {A = ℕ} 0 1 = cc in absurd (omega arith)
-taken test from (suc n) x e = go (test from) refl (taken test (suc from) n x)
-  where
-    go : (b : Bool) → test from ≡ b → (least test (suc from) n ≡ At x → Taken test (suc from) n x) → Taken test from (suc n) x
-    go true t r =
-        let w : from ≡ x = cc (least-hit test from n t) in
-        record { low = omega arith; high = omega arith; hit = rw w at t }
-    go false t r =
-        let w = r (sym (least-miss test from n t) ∙ e) in
-        record { low = omega (arith, w .low); high = omega (arith, w .high); hit = w .hit }
 
 -- tests that agree from `from` on give the same answer
 pub least-same : (test other : ℕ → Bool) (from n : ℕ) → ((x : ℕ) → from ≤ x → test x ≡ other x) → least test from n ≡ least other from n
@@ -187,7 +169,7 @@ least-under f from n s m r e x lo h = go (decLt x (from + n))
   where
     go : Dec (x < from + n) → s ≤ x
     go (yes l) = let w = found f from n x m r lo l h in let q : s ≡ w .z = cc (w .is) in omega (arith, w .high)
-    go (no l) = omega (arith, taken (fixed f) from n s e .high)
+    go (no l) = omega (arith, searched (fixed f) from n s e .high)
 
 -- and rises with f: of a larger g every fixed point is at least what g makes of f's least
 pub under-larger : (f g : ℕ → ℕ) (from n s : ℕ) → Mono f → Mono g → from ≤ f from → ((x : ℕ) → f x ≤ g x) → least (fixed f) from n ≡ At s → Under g from (g s)

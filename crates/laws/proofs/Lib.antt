@@ -7,3 +7,4 @@ pub mod Arrivals
 pub mod Order
 pub mod Steps
 pub mod AgreeLengths
+pub mod Fronts

@@ -4,6 +4,9 @@ ghost use Prim.Native.Nat.{_<_, _≤_};
 ghost use lib.ListN.{length};
 ghost use Rattle.paper.specs.File.{editionIn, cabinetIn, lineIn, tasksIn, wordsIn, fileLength};
 
+// What a file's first field says.
+pub const EDITION: u64 = 1;
+
 // The shortest file.
 pub const SHORTEST: usize = 22;
 
@@ -13,6 +16,13 @@ pub const HEAD_BITS: usize = 64;
 pub const RECORD_BITS: usize = 96;
 
 pub const WORD_BITS: usize = 20;
+
+pub const SEAL_BITS: usize = 16;
+
+// What a record uses of its bits, and the spare ones after them.
+pub const RECORD_USED: usize = 90;
+
+pub const RECORD_SPARE: usize = 6;
 
 // The head, each record and the seal, in bytes.
 pub const HEAD_BYTES: usize = 8;

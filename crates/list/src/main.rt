@@ -8,8 +8,8 @@ use paper::Outcome;
 use paper::Refusal;
 use paper::RowAnswer;
 use paper::Table;
-
-const PLATE_BYTES: usize = 5;
+use request::PLATE_AND_FILE;
+use request::PLATE_BYTES;
 
 // As many numbers as the longest row has.
 const ROW: usize = 2 * MOST_TASKS;
@@ -42,8 +42,7 @@ fn put_row(buf: &mut [u8], at: usize, row: &[u8]) -> usize
     if row.len() == 0 {
         return at;
     }
-    let start = text::room(buf, at, 4);
-    let first = text::put_decimal(buf, start, wide(row[0]));
+    let first = say::decimal(buf, at, wide(row[0]));
     let rest = say::bytes(buf, first, &row[1..]);
     say::newline(buf, rest)
 }
@@ -117,9 +116,8 @@ fn put_list(buf: &mut [u8], input: &[u8]) -> usize
     }
 }
 
-// A longer input is longer than any file, so that bytes past these change nothing.
 fn main() {
-    let mut input = [0u8; 512];
+    let mut input = [0u8; PLATE_AND_FILE];
     let n = io::read_full(libc::STDIN_FILENO, &mut input);
     let mut buf = io::large_buffer();
     let end = put_list(&mut buf, &input[..n]);

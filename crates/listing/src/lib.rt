@@ -38,7 +38,7 @@ fn row_passes(
 }
 
 // Whether no passing row begins with the digits up to place pos. It may say no where it does not know: so far it cuts only what can't stand
-// in a well-formed row.
+// in a well-formed row, and the columns are there for a cut that looks at times.
 fn hopeless(
     n: usize,
     c: &[u64; MOST_TASKS],

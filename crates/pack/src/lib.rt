@@ -15,6 +15,9 @@ use paper::Source;
 
 const HEAD_WIDTHS: [usize; 6] = [4, 4, 24, 16, 8, 8];
 
+// Spare bits.
+const CLEAR: u64 = 0;
+
 fn clear(s: &mut [u8])
     ensures { λ _. ⌜ now (s .exit) ≡ replicate (length (now (s .entry))) 0 ⌝ }
 {
@@ -31,7 +34,14 @@ pub fn put_head(s: &mut [u8], cabinet: Cabinet, line: Line, n: usize, m: usize)
     ensures { λ _. ⌜ now (s .exit) ≡ putHead (cabinet .0) (line .0) n m ⌝ }
 {
     clear(s);
-    let values: [u64; 6] = [1, 0, cabinet.0 as u64, line.0 as u64, n as u64, m as u64];
+    let values: [u64; 6] = [
+        layout::EDITION,
+        CLEAR,
+        cabinet.0 as u64,
+        line.0 as u64,
+        n as u64,
+        m as u64,
+    ];
     bits::put_all(s, 0, &HEAD_WIDTHS, &values);
 }
 
@@ -77,7 +87,7 @@ fn put_name(s: &mut [u8], at: usize, name: u32)
     ensures { λ _. ⌜ now (s .exit) ≡ putFields (now (s .entry)) at nameWidths (name ∷ 0 ∷ []) ⌝ }
 {
     bits::put(s, at, 7, name as u64);
-    bits::put(s, at + 7, 6, 0);
+    bits::put(s, at + 7, layout::RECORD_SPARE, CLEAR);
 }
 
 fn put_record(s: &mut [u8], k: usize, r: Record)
@@ -106,12 +116,14 @@ pub fn put_records(s: &mut [u8], rs: [Record; MOST_TASKS], n: usize)
 }
 
 // Two words are five bytes, so that each word of a pair begins at a known place in its byte: straight code again.
+const PAIR_BITS: usize = 2 * layout::WORD_BITS;
+
 fn put_pair(s: &mut [u8], at: usize, a: u32, b: u32)
     requires { ⌜ (at + 40 ≤ length (now s) * 8) × (at < 2 ^ 20) ⌝ }
     ensures { λ _. ⌜ now (s .exit) ≡ putField (putField (now (s .entry)) at 20 a) (at + 20) 20 b ⌝ }
 {
-    bits::put(s, at, 20, a as u64);
-    bits::put(s, at + 20, 20, b as u64);
+    bits::put(s, at, layout::WORD_BITS, a as u64);
+    bits::put(s, at + layout::WORD_BITS, layout::WORD_BITS, b as u64);
 }
 
 // Puts the first 2p words after n records.
@@ -122,7 +134,7 @@ fn put_pairs(s: &mut [u8], n: usize, ws: &[u32], p: usize)
     let at = layout::HEAD_BITS + layout::RECORD_BITS * n;
     let mut i: usize = 0;
     while i < p {
-        put_pair(s, at + 40 * i, ws[2 * i], ws[2 * i + 1]);
+        put_pair(s, at + PAIR_BITS * i, ws[2 * i], ws[2 * i + 1]);
         i += 1;
     }
 }

@@ -1,26 +1,17 @@
 -- C may lie above D; such a task never passes: no job finishes before it has had its own cost.
-use Prim.Native.Nat.{ℕ, zero, suc, _≤_, _<_}
+use Prim.Native.Nat.{ℕ, _≤_, _<_}
 use mathlib.Core.Path.{_≡_, refl}
 use mathlib.Core.Bool.{Bool, true, false}
 use native.Mathlib.Omega.{arith}
 use native.Mathlib.Nat.{zero-mul}
 use borrow.Author.Tests.{eqb-true}
 use Rattle.paper.specs.Numbers.{Assignment}
-use Rattle.paper.specs.Analysis.{Tasks, Standing, least, standing, startOf, finishSum, finishOf, finishFrom, job, taskPasses, passes}
+use Rattle.paper.specs.Analysis.{Tasks, Standing, standing, startOf, finishSum, finishOf, finishFrom, job, taskPasses, passes}
 use Rattle.paper.specs.declared.Time.{Time}
 use Rattle.paper.specs.declared.Time.the-variants.{At, Beyond}
 use Rattle.paper.proofs.Tests.{every-fails}
+use Rattle.paper.proofs.Searched.{searched}
 use Rattle.paper.proofs.Responses.{AllInTime, level-positive, first-job, within-jobs}
-
--- what the search finds passes the test
-least-passes : (test : ℕ → Bool) (from n x : ℕ) → least test from n ≡ At x → test x ≡ true
-unfolding least
-least-passes test from zero x e = let z : _≡_ {A = ℕ} 0 1 = cc in absurd (omega arith)
-least-passes test from (suc n) x e = go (test from) refl e (least-passes test (suc from) n x)
-  where
-    go : (b : Bool) → test from ≡ b → elim b as (λ _. Time) [ true ↦ At from | false ↦ least test (suc from) n ] ≡ At x → (least test (suc from) n ≡ At x → test x ≡ true) → test x ≡ true
-    go true t h r = let z : from ≡ x = cc in rw (← z) t
-    go false t h r = r h
 
 -- F is at least C(i)
 finish-least : (y : Tasks) (s : Standing) (i k f : ℕ) → job y s i k ≡ At f → y .c i ≤ f
@@ -28,7 +19,7 @@ unfolding job finishFrom finishOf finishSum
 finish-least y s i k f e = go (startOf y s i k) e
   where
     go : (start : Time) → finishFrom y s i start ≡ At f → y .c i ≤ f
-    go (At start) h = let z = eqb-true f _ (least-passes _ _ _ f h) in omega arith
+    go (At start) h = let z = eqb-true f _ (searched _ _ _ f h .hit) in omega arith
     go Beyond h = let z : _≡_ {A = ℕ} 0 1 = cc in absurd (omega arith)
 
 pub cost-above-deadline : (y : Tasks) (a : Assignment) (i : ℕ) → i < y .n → 1 ≤ y .t i → y .d i < y .c i → passes y a ≡ false

@@ -1,5 +1,6 @@
 pub mod Tests
 pub mod Asks
+pub mod Searched
 pub mod Figures
 pub mod Asked
 pub mod Responses

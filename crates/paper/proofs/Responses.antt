@@ -10,9 +10,10 @@ use lib.Dec.{leb, ltb, leb→le, le→leb}
 use lib.IntN.{ℤ, pos, negsuc, subℕ, pos-ne-negsuc}
 use lib.Signed.{_≤ℤ_}
 use borrow.Author.Tests.{le-leb, leb-true, ltb-true, le-ltb}
-use Rattle.paper.specs.Analysis.{Tasks, Standing, least, before, levelOf, startOf, finishOf, finishFrom, job, later, worst, worstFrom, response, within}
+use Rattle.paper.specs.Analysis.{Tasks, Standing, before, levelOf, startOf, finishOf, finishFrom, job, later, worst, worstFrom, response, within}
 use Rattle.paper.specs.declared.Time.{Time}
 use Rattle.paper.specs.declared.Time.the-variants.{At, Beyond}
+use Rattle.paper.proofs.Searched.{searched}
 
 -- F − k·T(i), a signed number
 abbrev pub difference : Tasks → ℕ → ℕ → ℕ → ℤ
@@ -42,27 +43,17 @@ pub record AllInTime (y : Tasks) (s : Standing) (i d : ℕ) : Type 0 where
   pub level : levelOf y s ≡ At l
   pub jobs : (k : ℕ) → k < before y l i → InTime y s i d k
 
--- what the search finds is no less than where it starts
-least-low : (test : ℕ → Bool) (from n x : ℕ) → least test from n ≡ At x → from ≤ x
-unfolding least
-least-low test from zero x e = let z : _≡_ {A = ℕ} 0 1 = cc in absurd (omega arith)
-least-low test from (suc n) x e = go (test from) e (least-low test (suc from) n x)
-  where
-    go : (b : Bool) → elim b as (λ _. Time) [ true ↦ At from | false ↦ least test (suc from) n ] ≡ At x → (least test (suc from) n ≡ At x → suc from ≤ x) → from ≤ x
-    go true h r = let z : from ≡ x = cc in omega arith
-    go false h r = omega (arith, r h)
-
--- so L and every F are above 0
+-- L and every F are above 0
 pub level-positive : (y : Tasks) (s : Standing) (l : ℕ) → levelOf y s ≡ At l → 1 ≤ l
 unfolding levelOf
-level-positive y s l e = least-low _ 1 _ l e
+level-positive y s l e = searched _ 1 _ l e .low
 
 finish-positive : (y : Tasks) (s : Standing) (i k f : ℕ) → job y s i k ≡ At f → 1 ≤ f
 unfolding job finishFrom finishOf
 finish-positive y s i k f e = go (startOf y s i k) e
   where
     go : (start : Time) → finishFrom y s i start ≡ At f → 1 ≤ f
-    go (At start) h = omega (arith, least-low _ (start + 1) _ f h)
+    go (At start) h = omega (arith, searched _ (start + 1) _ f h .low)
     go Beyond h = let z : _≡_ {A = ℕ} 0 1 = cc in absurd (omega arith)
 
 -- there is a first job

@@ -19,6 +19,11 @@ use paper::Source;
 use paper::Table;
 use paper::WordsPart;
 
+// A name's entry, and the first name number that stands in the house list.
+const NAME_BYTES: usize = 16;
+
+const FIRST_OF_HOUSE: u32 = 64;
+
 // `count` bytes, or words, from `from`.
 fn bytes_from<'a>(s: &'a [u8], from: usize, count: usize) -> &'a [u8]
     requires { ⌜ from + count ≤ length (now s) ⌝ }
@@ -41,7 +46,7 @@ fn name_list<'a>(number: u32, cabinet: &'a [u8], house: &'a [u8]) -> &'a [u8]
     ensures { λ r. ⌜ r ≡ cond (inCabinetList number) (cabinet .entry) (house .entry) ⌝ }
     ensures { λ r. ⌜ now r ≡ nameList number (now (cabinet .entry)) (now (house .entry)) ⌝ }
 {
-    if 64 <= number {
+    if FIRST_OF_HOUSE <= number {
         return house;
     }
     cabinet
@@ -51,17 +56,17 @@ fn name_start(number: u32) -> usize
     ensures { λ at. ⌜ at ≡ nameStart number ⌝ }
     ensures { λ at. ⌜ at ≤ 16 * number ⌝ }
 {
-    if number < 64 {
-        return 16 * number as usize;
+    if number < FIRST_OF_HOUSE {
+        return NAME_BYTES * number as usize;
     }
-    16 * (number - 64) as usize
+    NAME_BYTES * (number - FIRST_OF_HOUSE) as usize
 }
 
 pub fn name_outcome<'a>(number: u32, cabinet: &'a [u8], house: &'a [u8]) -> Outcome
     ensures { λ r. ⌜ r ≡ nameOutcome number (now (cabinet .entry)) (now (house .entry)) ⌝ }
 {
     let list = name_list(number, cabinet, house);
-    let end = name_start(number) + 16;
+    let end = name_start(number) + NAME_BYTES;
     if paper::MOST_NAME < number {
         return Outcome::Refused(Refusal::OutOfRange);
     }
@@ -98,7 +103,7 @@ fn name_for<'a>(outcome: Outcome, number: u32, cabinet: &'a [u8], house: &'a [u8
         Outcome::Refused(_) => bytes_from(list, 0, 0),
         Outcome::Done => {
             let at = name_start(number);
-            let stay = kept(list, at, 16);
+            let stay = kept(list, at, NAME_BYTES);
             bytes_from(list, at, stay)
         }
     }

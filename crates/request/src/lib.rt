@@ -9,13 +9,24 @@ use paper::Record;
 use paper::Source;
 use paper::Table;
 
+// A plate: cabinet 24, line 16. A program that reads a plate and a file reads no more than the room for them: the longest
+// file is shorter, so that bytes past it change nothing.
+pub const PLATE_BYTES: usize = 5;
+
+pub const PLATE_AND_FILE: usize = 512;
+
+// The longest body of a request, and the most words that stand in one.
+pub const LONGEST_BODY: usize = 4096;
+
+pub const MOST_BODY_WORDS: usize = LONGEST_BODY / 4;
+
 // What every byte of an output holds before it is lent.
 pub const FILL: u8 = 0xA5;
 
 pub const FILL_WORD: u32 = 0xA5A5_A5A5;
 
 // The byte at a place, or 0.
-pub fn byte_at(s: &[u8], at: usize) -> u32
+fn byte_at(s: &[u8], at: usize) -> u32
     ensures { λ r. ⌜ r < 256 ⌝ }
 {
     if at < s.len() {
@@ -33,7 +44,7 @@ pub fn two_at(s: &[u8], at: usize) -> usize
     high * 256 + low
 }
 
-pub fn four_at(s: &[u8], at: usize) -> u32
+fn four_at(s: &[u8], at: usize) -> u32
     requires { ⌜ at < 2 ^ 32 ⌝ }
 {
     let a = byte_at(s, at);

@@ -12,8 +12,10 @@ use lib.ListN.{getD}
 use Rattle.paper.specs.Numbers.{mostTicks, horizon}
 use Rattle.paper.specs.Analysis.{Tasks, before, by, started, load, levelSum, levelOf, startSum, startOf, finishSum, finishOf}
 use Rattle.paper.specs.declared.Time.the-variants.{At}
-use Rattle.laws.proofs.Least.{Mono, fixed, least-same, under-skip, under-larger, taken}
-use Rattle.laws.proofs.Arrivals.{before-le, by-is, before-first, load-same, load-part, load-less}
+use Rattle.paper.proofs.Searched.{searched}
+use Rattle.paper.proofs.Responses.{first-job}
+use Rattle.laws.proofs.Least.{Mono, fixed, least-same, under-skip, under-larger}
+use Rattle.laws.proofs.Arrivals.{before-le, by-is, load-same, load-part, load-less}
 use Rattle.climb.specs.Work.{timesBy, Ready, work, side, solution, Rises}
 use Rattle.response.specs.Stands.{standBy, edge, Climbs}
 use Rattle.response.specs.declared.Stand.{Stand}
@@ -80,13 +82,13 @@ module _ (n : ℕ) (cs ts ps : List ℕ) (r : Ready n cs ts ps) (s : Stand) wher
               arith,
               level-side 1,
               load-part (timesBy n cs ts) (λ j. leb (getD ps j 0) (s .p)) (before (timesBy n cs ts) 1) i l (le-leb (getD ps i 0) (s .p) (omega arith)),
-              mul-le-mul (before-first (timesBy n cs ts) i (r .periods .above i l) 1 (le-refl 1)) (r .costs .above i l),
+              mul-le-mul (first-job (timesBy n cs ts) i 1 (r .periods .above i l) (le-refl 1)) (r .costs .above i l),
             );
       }
 
   pub level-range : (l : ℕ) → levelOf (timesBy n cs ts) (standBy ps s) ≡ At l → l ≤ horizon
   unfolding levelOf
-  level-range l e = omega (arith, taken _ 1 horizon l e .high)
+  level-range l e = omega (arith, searched _ 1 horizon l e .high)
 
   -- S of job k of task i
 
@@ -106,7 +108,7 @@ module _ (n : ℕ) (cs ts ps : List ℕ) (r : Ready n cs ts ps) (s : Stand) wher
 
     pub start-range : (v : ℕ) → startOf (timesBy n cs ts) (standBy ps s) i k ≡ At v → v ≤ horizon
     unfolding startOf
-    start-range v e = omega (arith, taken _ 0 (horizon + 1) v e .high)
+    start-range v e = omega (arith, searched _ 0 (horizon + 1) v e .high)
 
     module _ (from first : ℕ) (f : first ≡ edge (s .b)) (up : Climbs (startSum (timesBy n cs ts) (standBy ps s) i k) from) where
       pub start-is : solution (timesBy n cs ts) ps (startBy s (s .b + k * getD cs i 0) first) from ≡ startOf (timesBy n cs ts) (standBy ps s) i k
@@ -138,7 +140,7 @@ module _ (n : ℕ) (cs ts ps : List ℕ) (r : Ready n cs ts ps) (s : Stand) wher
   climbs-next i k v e =
       let this = startSum (timesBy n cs ts) (standBy ps s) i k in
       let next = startSum (timesBy n cs ts) (standBy ps s) i (k + 1) in
-      let q : v ≡ this v = eqb-true v (this v) (taken (fixed this) 0 (horizon + 1) v e .hit) in
+      let q : v ≡ this v = eqb-true v (this v) (searched (fixed this) 0 (horizon + 1) v e .hit) in
       let m : next v ≡ v + getD cs i 0 = omega (arith, start-next i k v) in
       record {
         rises = omega (arith, start-le i (k + 1) v (v + getD cs i 0) (omega arith));

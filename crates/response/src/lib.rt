@@ -79,7 +79,7 @@ fn edge(b: u64) -> u64
     if 0 < b { 0 } else { 1 }
 }
 
-// L
+// L. The task i is there for what is asked: it counts itself, so that L is above 0.
 fn level(n: usize, c: &Numbers, t: &Numbers, p: &Numbers, i: usize, s: Stand) -> Time
     requires { ⌜ Ready n (now c) (now t) (now p) × (i < n) × (s .b ≤ mostTicks) × (s .p ≡ getD (now p) i 0) ⌝ }
     ensures { λ r. ⌜ r ≡ levelOf (timesBy n (now (c .entry)) (now (t .entry))) (standBy (now (p .entry)) s) ⌝ }

@@ -12,7 +12,7 @@ use Rattle.paper.specs.Rows.{rowSize, placeOf, rowAssignment, rowHolds}
 use Rattle.laws.proofs.Lists.{per-task-at}
 use Rattle.laws.proofs.Agree.{SameAssignment}
 use Rattle.columns.specs.Columns.{assignedBy}
-use Rattle.checks.proofs.Assignment.{each-once-same, thresholds-same}
+use Rattle.laws.proofs.Agree.{each-once-same, thresholds-same}
 
 module _ (n : ℕ) (d : List ℕ) (few : n ≤ mostTasks) (size : length d ≡ rowSize mostTasks) where
   module _ (ps hs : List ℕ) (p : ps ≡ perTask n (λ k. placeOf (take n d) (suc k)) 0) (h : hs ≡ perTask n (λ k. getD d (n + k) 0) 0) where

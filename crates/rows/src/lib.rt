@@ -18,7 +18,7 @@ pub fn wide(x: u8) -> u64
 }
 
 // Where v stands first among the first n numbers, counted from 1; n where it does not.
-pub fn place_of(d: &[u8; MOST_NUMBERS], n: usize, v: u64) -> u64
+fn place_of(d: &[u8; MOST_NUMBERS], n: usize, v: u64) -> u64
     requires { ⌜ (n ≤ mostTasks) × (length (now d) ≡ rowSize mostTasks) ⌝ }
     ensures { λ r. ⌜ r ≡ placeOf (take n (now (d .entry))) v ⌝ }
 {

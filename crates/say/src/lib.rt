@@ -56,7 +56,7 @@ pub fn size_of(x: i64) -> u64
 }
 
 // A space and a signed number.
-pub fn signed(buf: &mut [u8], at: usize, x: i64) -> usize
+fn signed(buf: &mut [u8], at: usize, x: i64) -> usize
     requires { ⌜ at ≤ length (now buf) ⌝ }
     ensures { λ r. ⌜ r ≤ length (now (buf .entry)) ⌝ }
 {
@@ -143,7 +143,7 @@ fn pair(buf: &mut [u8], at: usize, b: u8) -> usize
 }
 
 // Bytes in one hexadecimal run, with nothing in front.
-pub fn run(buf: &mut [u8], at: usize, bs: &[u8]) -> usize
+fn run(buf: &mut [u8], at: usize, bs: &[u8]) -> usize
     requires { ⌜ at ≤ length (now buf) ⌝ }
     ensures { λ r. ⌜ r ≤ length (now (buf .entry)) ⌝ }
 {

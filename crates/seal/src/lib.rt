@@ -29,7 +29,7 @@ fn seal_byte(c: u16, b: u8) -> u16
 }
 
 // The seal of the bytes s.
-pub fn seal_of(s: &[u8]) -> u16
+fn seal_of(s: &[u8]) -> u16
     ensures { λ r. ⌜ r ≡ sealOf (now (s .entry)) ⌝ }
 {
     let mut c: u16 = 0xffff;
@@ -47,7 +47,7 @@ pub fn is_sealed(f: &[u8], end: usize) -> bool
     ensures { λ r. ⌜ r ≡ sealed (now (f .entry)) end ⌝ }
 {
     let c = seal_of(&f[..end]) as u64;
-    bits::get(f, end * 8, 16) == c
+    bits::get(f, end * 8, layout::SEAL_BITS) == c
 }
 
 // Puts the seal of the bytes before `end` into the two bytes from `end` on.
@@ -56,5 +56,5 @@ pub fn put_seal(f: &mut [u8], end: usize)
     ensures { λ _. ⌜ now (f .exit) ≡ putSeal (now (f .entry)) end ⌝ }
 {
     let c = seal_of(&f[..end]) as u64;
-    bits::put(f, end * 8, 16, c);
+    bits::put(f, end * 8, layout::SEAL_BITS, c);
 }

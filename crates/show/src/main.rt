@@ -12,8 +12,8 @@ use paper::MOST_WORDS;
 use paper::Outcome;
 use paper::Refusal;
 use paper::Table;
-
-const PLATE_BYTES: usize = 5;
+use request::PLATE_AND_FILE;
+use request::PLATE_BYTES;
 
 fn put_plate(buf: &mut [u8], cabinet: Cabinet, line: Line) -> usize
     ensures { λ r. ⌜ r ≤ length (now (buf .entry)) ⌝ }
@@ -100,7 +100,7 @@ fn main() {
     let c = read_list(1, &mut cabinet_names);
     let mut house_names = [0u8; 1024];
     let h = read_list(2, &mut house_names);
-    let mut input = [0u8; 512];
+    let mut input = [0u8; PLATE_AND_FILE];
     let n = io::read_full(libc::STDIN_FILENO, &mut input);
     let mut buf = io::large_buffer();
     let end = put_file(

@@ -50,7 +50,7 @@ pub fn no_table() -> Table
 }
 
 // Record k + 1.
-pub fn record_in(f: &[u8], k: usize) -> Record
+fn record_in(f: &[u8], k: usize) -> Record
     requires { ⌜ Holds (now f) (k + 1) ⌝ }
     ensures { λ r. ⌜ r ≡ recordIn (now (f .entry)) k ⌝ }
 {
@@ -117,7 +117,13 @@ fn records_spare_clear(f: &[u8], n: usize) -> bool
     let mut ok = true;
     let mut k: usize = 0;
     while k < n {
-        ok = ok & (bits::get(f, layout::HEAD_BITS + layout::RECORD_BITS * k + 90, 6) == 0);
+        ok = ok
+            & (bits::get(
+                f,
+                layout::HEAD_BITS + layout::RECORD_BITS * k + layout::RECORD_USED,
+                layout::RECORD_SPARE,
+            )
+                == 0);
         k += 1;
     }
     ok

@@ -1,12 +1,12 @@
 -- `bench::sum_of` sums at most a million for each task.
 use Prim.Native.Nat.{_≤_, _-_, _*_}
-use Rattle.paper.specs.Numbers.{mostTasks}
+use Rattle.paper.specs.Numbers.{mostTasks, horizon}
 use borrow.Author.Needs.{needs}
 use Rattle.bench.proofs.sum_of.Statement.{statement}
 use Rattle.bench.proofs.sum_of.Tie as tie
 
 abbrev Inv-loop : tie.InvT-loop
-Inv-loop times sum₀ k₀ sum k = (k ≤ mostTasks) × (sum ≤ 1000000 * k)
+Inv-loop times sum₀ k₀ sum k = (k ≤ mostTasks) × (sum ≤ horizon * k)
 
 abbrev μ-loop : tie.MeasureT-loop
 μ-loop times sum₀ k₀ sum k = mostTasks - k

@@ -4,7 +4,7 @@ use mathlib.Core.Path.{_≡_, refl}
 use mathlib.Core.List.{_++_}
 use native.Mathlib.Omega.{arith}
 use lib.ListN.{length, take, drop, length-set}
-use Rattle.reader.proofs.Front.{front-more, front-done}
+use Rattle.laws.proofs.Fronts.{front-more, front-done}
 use Rattle.reader.proofs.put_words.Statement.{statement}
 use Rattle.reader.proofs.put_words.Tie as tie
 

@@ -6,7 +6,8 @@ use native.Mathlib.Omega.{arith}
 use lib.ListN.{take, drop, length, replicate}
 use Rattle.paper.specs.Numbers.{mostTasks}
 use Rattle.paper.specs.Rows.{rowSize}
-use Rattle.rows.proofs.Copies.{copy-turn, copied}
+use Rattle.laws.proofs.Fronts.{front-more}
+use Rattle.rows.proofs.Copies.{copied}
 use Rattle.rows.proofs.load.Statement.{statement}
 use Rattle.rows.proofs.load.Tie as tie
 
@@ -34,7 +35,7 @@ loop-less c = omega arith
 loop-again : tie.Need-loop-again Inv-loop μ-loop
 loop-again c =
     let l : c .before .before .loop .i < rowSize mostTasks = omega arith in
-    (omega arith, copy-turn (c .before .before .before .args .row .now) _ _ (c .before .before .loop .inv .1) (omega arith) l)
+    (omega arith, front-more (c .before .before .before .args .row .now) _ 0 _ (omega arith) l (c .before .before .loop .inv .1))
 
 returns : tie.Need-returns Inv-loop μ-loop
 returns c = copied _ _ (c .before .loop .i) _ (c .before .loop .inv .1) (omega arith) refl (c .before .before .pre)

@@ -4,7 +4,8 @@ use mathlib.Core.Path.{_≡_, refl}
 use mathlib.Core.List.{_++_}
 use native.Mathlib.Omega.{arith}
 use lib.ListN.{take, drop, length, length-set}
-use Rattle.rows.proofs.Copies.{copy-turn, copy-done}
+use Rattle.laws.proofs.Fronts.{front-more}
+use Rattle.rows.proofs.Copies.{copy-done}
 use Rattle.rows.proofs.store.Statement.{statement}
 use Rattle.rows.proofs.store.Tie as tie
 
@@ -34,7 +35,7 @@ loop-again c = (
   omega arith,
   (
     simp length-set (c .before .before .loop .inv .1 .0),
-    copy-turn (c .before .before .before .args .d .now) _ _ (c .before .before .loop .inv .1 .1) (omega arith) (omega arith),
+    front-more (c .before .before .before .args .d .now) _ 0 _ (omega arith) (omega arith) (c .before .before .loop .inv .1 .1),
   ),
 )
 
