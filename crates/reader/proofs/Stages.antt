@@ -1,21 +1,20 @@
 -- The stages of reading: what each asks is the paper's list, and together they are all of it and the answer.
 use mathlib.Core.Path.{_≡_, refl, sym, ap, _∙_}
-use mathlib.Core.Bool.{Bool, not, cond}
+use mathlib.Core.Bool.{Bool, true, false, not}
 use mathlib.Core.List.{List, [], _∷_, _++_}
-use Prim.Native.Nat.{ℕ, _-_, _≤_, _<_}
+use Prim.Native.Nat.{ℕ, _-_, _≤_}
 use native.Mathlib.Omega.{arith}
-use borrow.Author.Tests.{leb-true, ltb-false, eqb-true, not-false, lt-ltb, le-ltb}
-use lib.Dec.{leb, ltb, eqb}
+use borrow.Author.Tests.{leb-true, ltb-false, eqb-true, not-false, eq-eqb, ne-eqb, le-ltb}
+use lib.Dec.{leb, eqb}
 use lib.ListN.{length, drop}
-use Rattle.paper.specs.Numbers.{mostTasks, mostWords, tasksInRange, countsInRange, recordsInRange, assignmentHolds}
-use Rattle.paper.specs.File.{editionIn, cabinetIn, lineIn, tasksIn, wordsIn, shortest, fileLength, sealed, spareClear, recordsIn, regionWords}
-use Rattle.paper.specs.Regions.{allRegionsHold}
-use Rattle.paper.specs.Refusals.{firstOf, noRoom, fileAsks, readAsks}
+use Rattle.paper.specs.Numbers.{mostTasks, mostWords, tasksInRange}
+use Rattle.paper.specs.File.{tasksIn, wordsIn, fileLength, sealed, spareClear, recordsIn, regionWords}
+use Rattle.paper.specs.Refusals.{Asks, firstOf, outOfRange, badAssignment, badRegions, noRoom, fileAsks, readAsks}
 use Rattle.paper.specs.Answers.{noTable, tableFor, wordsFor, readAnswer, readOut}
 use Rattle.paper.specs.declared.Record.{Record}
 use Rattle.paper.specs.declared.Table.{Table}
 use Rattle.paper.specs.declared.Refusal.{Refusal}
-use Rattle.paper.specs.declared.Refusal.the-variants.{Short, WrongEdition, WrongCabinet, WrongLine, WrongCounts, WrongLength, WrongSeal, SpareBitSet, OutOfRange, BadAssignment, BadRegions, NoRoom}
+use Rattle.paper.specs.declared.Refusal.the-variants.{WrongSeal, SpareBitSet}
 use Rattle.paper.specs.declared.Outcome.{Outcome}
 use Rattle.paper.specs.declared.Outcome.the-variants.{Done, Refused}
 use Rattle.paper.specs.declared.ReadAnswer.{ReadAnswer}
@@ -26,32 +25,26 @@ use Rattle.unpack.specs.Unpack.{Sized}
 use Rattle.unpack.proofs.Words.{words-length}
 use Rattle.reader.specs.Stages.{headAsks, bodyAsks, Unpacked}
 
--- The head's asks, of the fields as they were got.
-pub head-short : (f : List ℕ) (cabinet line : ℕ) → length f < shortest → Refused Short ≡ firstOf (headAsks f cabinet line)
-head-short f cabinet line h = rw (lt-ltb (length f) shortest h)
+-- A call gave x, which is y in the paper's words. It is a number, and not the one wanted, or that one; or a test, and found to hold or not.
+pub differs : {x y : ℕ} (wanted : ℕ) → x ≡ y → (x ≡ wanted → ⊥) → not (eqb y wanted) ≡ true
+differs {x} wanted e h = rw (← e, ne-eqb x wanted h)
 
-pub head-asked : (f : List ℕ) (cabinet line : ℕ) {e k l n m size : ℕ} {counts : Bool} {x2 x3 x4 x5 x6 : Outcome}
-    → shortest ≤ length f → e ≡ editionIn f → k ≡ cabinetIn f → l ≡ lineIn f → n ≡ tasksIn f → m ≡ wordsIn f → size ≡ fileLength n m
-    → x6 ≡ cond (not (eqb (length f) size)) (Refused WrongLength) Done
-    → counts ≡ countsInRange n m → x5 ≡ cond (not counts) (Refused WrongCounts) x6
-    → x4 ≡ cond (not (eqb l line)) (Refused WrongLine) x5
-    → x3 ≡ cond (not (eqb k cabinet)) (Refused WrongCabinet) x4
-    → x2 ≡ cond (not (eqb e 1)) (Refused WrongEdition) x3
-    → x2 ≡ firstOf (headAsks f cabinet line)
-head-asked f cabinet line long e k l n m s e6 c e5 e4 e3 e2 = rw (le-ltb (length f) shortest long, e2, e3, e4, e5, c, e6, e, k, l, s, n, m)
+pub agrees : {x y : ℕ} (wanted : ℕ) → x ≡ y → x ≡ wanted → not (eqb y wanted) ≡ false
+agrees {x} wanted e h = rw (← e, eq-eqb x wanted h)
 
--- The other asks, of what was unpacked.
-pub body-asked : (f catalogue : List ℕ) (room : ℕ) {n m : ℕ} {rs : List Record} {own : List ℕ} {s p r a g : Bool} {x7 x8 x9 x10 x11 x12 : Outcome}
-    → Unpacked f n m rs own
-    → x12 ≡ cond (ltb room m) (Refused NoRoom) Done
-    → g ≡ allRegionsHold rs n own catalogue → x11 ≡ cond (not g) (Refused BadRegions) x12
-    → a ≡ assignmentHolds rs n → x10 ≡ cond (not a) (Refused BadAssignment) x11
-    → r ≡ recordsInRange rs n → x9 ≡ cond (not r) (Refused OutOfRange) x10
-    → p ≡ spareClear f n m → x8 ≡ cond (not p) (Refused SpareBitSet) x9
-    → s ≡ sealed f (length f - 2) → x7 ≡ cond (not s) (Refused WrongSeal) x8
-    → x7 ≡ firstOf (bodyAsks f catalogue room)
-body-asked f catalogue room u e12 g e11 a e10 r e9 p e8 s e7 =
-    rw (e7, s, e8, p, e9, r, e10, a, e11, g, e12, u .records, u .regions, u .tasks, u .words)
+pub found : {x y b : Bool} → x ≡ y → not x ≡ b → not y ≡ b
+found e h = rw (← e) h
+
+-- Asks 7 to 12, of what was unpacked.
+abbrev pub unpackedAsks : List ℕ → ℕ → ℕ → List Record → List ℕ → List ℕ → ℕ → Asks
+unpackedAsks f n m rs own catalogue room =
+    (WrongSeal, not (sealed f (length f - 2))) ∷
+    (SpareBitSet, not (spareClear f n m)) ∷
+    outOfRange rs n ∷ badAssignment rs n ∷ badRegions rs n own catalogue ∷ noRoom room m ∷ []
+
+pub body-asked : (f catalogue : List ℕ) (room : ℕ) {n m : ℕ} {rs : List Record} {own : List ℕ} {x : Outcome} → Unpacked f n m rs own
+    → x ≡ firstOf (unpackedAsks f n m rs own catalogue room) → x ≡ firstOf (bodyAsks f catalogue room)
+body-asked f catalogue room u e = e ∙ rw (u .records, u .regions, u .tasks, u .words)
 
 -- What was unpacked: the own words are few enough to be asked.
 pub own-few : {f : List ℕ} {n m : ℕ} {rs : List Record} {own : List ℕ} → Unpacked f n m rs own → length own ≤ mostWords

@@ -24,20 +24,26 @@ fn head(file: &[u8], cabinet: Cabinet, line: Line) -> Outcome
         return Outcome::Refused(Refusal::Short);
     }
     let edition = layout::edition_of(file);
+    if edition != layout::EDITION {
+        return Outcome::Refused(Refusal::WrongEdition);
+    }
     let its_cabinet = layout::cabinet_of(file);
+    if its_cabinet != cabinet.0 as u64 {
+        return Outcome::Refused(Refusal::WrongCabinet);
+    }
     let its_line = layout::line_of(file);
+    if its_line != line.0 as u64 {
+        return Outcome::Refused(Refusal::WrongLine);
+    }
     let n = layout::task_count(file);
     let m = layout::word_count(file);
-    let size = layout::file_length(n, m);
-    let length = checks::ask(file.len() != size, Refusal::WrongLength, Outcome::Done);
-    let counts = checks::ask(!checks::counts_in_range(n, m), Refusal::WrongCounts, length);
-    let lines = checks::ask(its_line != line.0 as u64, Refusal::WrongLine, counts);
-    let cabinets = checks::ask(
-        its_cabinet != cabinet.0 as u64,
-        Refusal::WrongCabinet,
-        lines,
-    );
-    checks::ask(edition != 1, Refusal::WrongEdition, cabinets)
+    if !checks::counts_in_range(n, m) {
+        return Outcome::Refused(Refusal::WrongCounts);
+    }
+    if file.len() != layout::file_length(n, m) {
+        return Outcome::Refused(Refusal::WrongLength);
+    }
+    Outcome::Done
 }
 
 // Asks 7 to 12, of what was unpacked.
@@ -54,28 +60,25 @@ fn body(
     ensures { λ x. ⌜ x ≡ firstOf (bodyAsks (now (file .entry)) (now (catalogue .entry)) room) ⌝ }
 {
     let end = file.len() - layout::SEAL_BYTES;
-    let no_room = checks::ask(room < m, Refusal::NoRoom, Outcome::Done);
-    let regions = checks::ask(
-        !checks::all_regions_hold(rs, n, own, catalogue),
-        Refusal::BadRegions,
-        no_room,
-    );
-    let assignment = checks::ask(
-        !checks::assignment_holds(rs, n),
-        Refusal::BadAssignment,
-        regions,
-    );
-    let ranges = checks::ask(
-        !checks::records_in_range(rs, n),
-        Refusal::OutOfRange,
-        assignment,
-    );
-    let spare = checks::ask(
-        !unpack::spare_clear(file, n, m),
-        Refusal::SpareBitSet,
-        ranges,
-    );
-    checks::ask(!seal::is_sealed(file, end), Refusal::WrongSeal, spare)
+    if !seal::is_sealed(file, end) {
+        return Outcome::Refused(Refusal::WrongSeal);
+    }
+    if !unpack::spare_clear(file, n, m) {
+        return Outcome::Refused(Refusal::SpareBitSet);
+    }
+    if !checks::records_in_range(rs, n) {
+        return Outcome::Refused(Refusal::OutOfRange);
+    }
+    if !checks::assignment_holds(rs, n) {
+        return Outcome::Refused(Refusal::BadAssignment);
+    }
+    if !checks::all_regions_hold(rs, n, own, catalogue) {
+        return Outcome::Refused(Refusal::BadRegions);
+    }
+    if room < m {
+        return Outcome::Refused(Refusal::NoRoom);
+    }
+    Outcome::Done
 }
 
 fn refused(r: Refusal) -> ReadAnswer

@@ -1,23 +1,97 @@
--- `reader::head` meets its contract.
+-- The asks in their order: each way out is the first that applies, and the last is behind them all.
+use mathlib.Core.Path.{_≡_, refl, sym, _∙_}
+use mathlib.Core.Bool.{Bool, not}
+use mathlib.Core.List.{List}
+use Prim.Native.Nat.{ℕ}
+use borrow.Author.Tests.{lt-ltb, le-ltb}
+use lib.Dec.{eqb}
+use lib.ListN.{drop}
 use denote.Ref.{now}
-use Rattle.reader.proofs.Stages.{head-short, head-asked}
+use Rattle.paper.specs.Numbers.{countsInRange}
+use Rattle.paper.specs.File.{editionIn, cabinetIn, lineIn, tasksIn, wordsIn, fileLength}
+use Rattle.paper.specs.Refusals.{firstOf}
+use Rattle.paper.specs.declared.Refusal.the-variants.{Short, WrongEdition, WrongCabinet, WrongLine, WrongCounts, WrongLength}
+use Rattle.paper.specs.declared.Outcome.{Outcome}
+use Rattle.checks.proofs.Asks.{stops, goes-on}
+use Rattle.reader.specs.Stages.{headAsks}
+use Rattle.reader.proofs.Stages.{differs, agrees, found}
 use borrow.Author.Needs.{needs}
 use Rattle.reader.proofs.head.Statement.{statement}
 use Rattle.reader.proofs.head.Tie as tie
 
+abbrev file : tie.Start → List ℕ
+file s = now (s .args .file)
+
+-- x is the outcome of all asks but the first k
+abbrev Left : tie.Start → ℕ → Outcome → Type 0
+Left s k x = x ≡ firstOf (drop k (headAsks (file s) (s .args .cabinet .0) (s .args .line .0)))
+
+-- the paper's field is not the one wanted
+abbrev other : tie.Start → (List ℕ → ℕ) → ℕ → Bool
+other s field wanted = not (eqb (field (file s)) wanted)
+
 returns : tie.Need-returns
-returns c =
-    let a = c .before .before .args in
-    head-short (now (a .file)) (a .cabinet .0) (a .line .0) (c .if1 .taken)
+returns c = stops Short _ (lt-ltb _ _ (c .if1 .taken))
+
+abbrev start1 : tie.Else1 → tie.Start
+start1 c = c .before .before
+
+past1 : (c : tie.Else1) {x : Outcome} → Left (start1 c) 1 x → Left (start1 c) 0 x
+past1 c e = goes-on Short (le-ltb _ _ (c .if1 .left)) e
 
 edition-of-requires : tie.Need-edition-of-requires
 edition-of-requires c κs = search needs
 
+returns-2 : tie.Need-returns-2
+returns-2 c =
+    let s = start1 (c .before .before) in
+    past1 (c .before .before) (stops WrongEdition _ {b = other s editionIn 1} (search (differs, needs)))
+
+abbrev start2 : tie.Else2 → tie.Start
+start2 c = start1 (c .before .before)
+
+past2 : (c : tie.Else2) {x : Outcome} → Left (start2 c) 2 x → Left (start2 c) 0 x
+past2 c e =
+    let s = start2 c in
+    past1 (c .before .before) (goes-on WrongEdition {b = other s editionIn 1} (search (agrees, needs)) e)
+
 cabinet-of-requires : tie.Need-cabinet-of-requires
 cabinet-of-requires c κs = search needs
 
+cast-if3 : tie.Need-cast-if3
+cast-if3 c = search needs
+
+returns-3 : tie.Need-returns-3
+returns-3 c =
+    let s = start2 (c .before .before .before) in
+    past2 (c .before .before .before) (stops WrongCabinet _ {b = other s cabinetIn (s .args .cabinet .0)} (search (differs, needs)))
+
+abbrev start3 : tie.Else3 → tie.Start
+start3 c = start2 (c .before .before .before)
+
+past3 : (c : tie.Else3) {x : Outcome} → Left (start3 c) 3 x → Left (start3 c) 0 x
+past3 c e =
+    let s = start3 c in
+    past2 (c .before .before .before) (goes-on WrongCabinet {b = other s cabinetIn (s .args .cabinet .0)} (search (agrees, needs)) e)
+
 line-of-requires : tie.Need-line-of-requires
 line-of-requires c κs = search needs
+
+cast-if4 : tie.Need-cast-if4
+cast-if4 c = search needs
+
+returns-4 : tie.Need-returns-4
+returns-4 c =
+    let s = start3 (c .before .before .before) in
+    past3 (c .before .before .before) (stops WrongLine _ {b = other s lineIn (s .args .line .0)} (search (differs, needs)))
+
+abbrev start4 : tie.Else4 → tie.Start
+start4 c = start3 (c .before .before .before)
+
+past4 : (c : tie.Else4) {x : Outcome} → Left (start4 c) 4 x → Left (start4 c) 0 x
+past4 c e =
+    let s = start4 c in
+    past3 (c .before .before .before) (goes-on WrongLine {b = other s lineIn (s .args .line .0)} (search (agrees, needs)) e)
 
 task-count-requires : tie.Need-task-count-requires
 task-count-requires c κs = search needs
@@ -25,57 +99,39 @@ task-count-requires c κs = search needs
 word-count-requires : tie.Need-word-count-requires
 word-count-requires c κs = search needs
 
-file-length-requires : tie.Need-file-length-requires
-file-length-requires c κs = search needs
-
-ask-requires : tie.Need-ask-requires
-ask-requires c κs = search needs
-
 counts-in-range-requires : tie.Need-counts-in-range-requires
 counts-in-range-requires c κs = search needs
 
-ask-requires-2 : tie.Need-ask-requires-2
-ask-requires-2 c κs = search needs
+-- what a call gave of n and m, of the paper's n and m
+of-counts : {A : Type 0} (g : ℕ → ℕ → A) (c : tie.After-word-count) {x : A} → x ≡ g (c .before .task-count .result) (c .word-count .result)
+    → x ≡ g (tasksIn (file (start4 (c .before .before)))) (wordsIn (file (start4 (c .before .before))))
+of-counts g c e = rw (← c .before .task-count .ensures .0, ← c .word-count .ensures .0) e
 
-cast-ask : tie.Need-cast-ask
-cast-ask c = search needs
+returns-5 : tie.Need-returns-5
+returns-5 c =
+    past4 (c .before .before .before .before)
+    (stops WrongCounts _ (found (of-counts countsInRange (c .before .before) (c .before .counts-in-range .ensures)) (c .if5 .taken)))
 
-ask-requires-3 : tie.Need-ask-requires-3
-ask-requires-3 c κs = search needs
+abbrev start5 : tie.Else5 → tie.Start
+start5 c = start4 (c .before .before .before .before)
 
-cast-ask-2 : tie.Need-cast-ask-2
-cast-ask-2 c = search needs
+past5 : (c : tie.Else5) {x : Outcome} → Left (start5 c) 5 x → Left (start5 c) 0 x
+past5 c e =
+    past4 (c .before .before .before .before)
+    (goes-on WrongCounts (found (of-counts countsInRange (c .before .before) (c .before .counts-in-range .ensures)) (c .if5 .left)) e)
 
-ask-requires-4 : tie.Need-ask-requires-4
-ask-requires-4 c κs = search needs
+file-length-requires : tie.Need-file-length-requires
+file-length-requires c κs = search needs
 
-ask-requires-5 : tie.Need-ask-requires-5
-ask-requires-5 c κs = search needs
+size : (c : tie.After-file-length)
+    → c .file-length .result ≡ fileLength (tasksIn (file (start5 (c .before)))) (wordsIn (file (start5 (c .before))))
+size c = of-counts fileLength (c .before .before .before) (c .file-length .ensures)
 
-returns-2 : tie.Need-returns-2
-returns-2 c =
-    let lines = c .before .before .before in
-    let counts = lines .before .before in
-    let size = counts .before .before .before in
-    let m = size .before in
-    let n = m .before in
-    let its-line = n .before in
-    let its-cabinet = its-line .before in
-    let edition = its-cabinet .before in
-    let a = edition .before .before .before .args in
-    head-asked (now (a .file)) (a .cabinet .0) (a .line .0) (edition .before .if1 .left)
-    (edition .edition-of .ensures)
-    (its-cabinet .cabinet-of .ensures)
-    (its-line .line-of .ensures)
-    (n .task-count .ensures .0)
-    (m .word-count .ensures .0)
-    (size .file-length .ensures)
-    (counts .before .before .ask .ensures)
-    (counts .before .counts-in-range .ensures)
-    (counts .ask2 .ensures)
-    (lines .ask3 .ensures)
-    (c .before .ask4 .ensures)
-    (c .ask5 .ensures)
+returns-6 : tie.Need-returns-6
+returns-6 c = past5 (c .before .before) (stops WrongLength _ (differs _ refl (λ h. c .if6 .taken (h ∙ sym (size (c .before))))))
+
+returns-7 : tie.Need-returns-7
+returns-7 c = past5 (c .before .before) (goes-on WrongLength (agrees _ refl (c .if6 .left ∙ size (c .before))) refl)
 
 pub head-spec : {M : Type 1} → statement M
 head-spec =
@@ -83,17 +139,17 @@ head-spec =
     (tie.spec
     returns
     edition-of-requires
+    returns-2
     cabinet-of-requires
+    cast-if3
+    returns-3
     line-of-requires
+    cast-if4
+    returns-4
     task-count-requires
     word-count-requires
-    file-length-requires
-    ask-requires
     counts-in-range-requires
-    ask-requires-2
-    cast-ask
-    ask-requires-3
-    cast-ask-2
-    ask-requires-4
-    ask-requires-5
-    returns-2)
+    returns-5
+    file-length-requires
+    returns-6
+    returns-7)
