@@ -5,7 +5,7 @@ ghost use Prim.Native.Nat.{_+_, _<_, _≤_, _^_};
 ghost use lib.Dec.{leb, eqb};
 ghost use lib.ListN.{length, getD};
 ghost use Rattle.paper.specs.Vocabulary.{every};
-ghost use Rattle.paper.specs.Numbers.{mostTasks, mostWords, rec, tasksInRange, countsInRange, ticksInRange, recordInRange, recordsInRange, eachOnce, thresholdsHold, unassigned as isUnassigned, assignmentHolds};
+ghost use Rattle.paper.specs.Numbers.{mostTasks, mostWords, rec, tasksInRange, countsInRange, ticksInRange, recordInRange, recordsInRange, eachOnce, thresholdsHold, unassigned, assignmentHolds};
 ghost use Rattle.paper.specs.Regions.{listOf, wordsInRange, wordsSum, regionsHold, recordRegionsHold, allRegionsHold};
 ghost use Rattle.paper.specs.Refusals.{firstOf, timesAsks, tolerancesAsks, firstAsks};
 ghost use Rattle.paper.specs.declared.Outcome.the-variants.{Refused};
@@ -30,7 +30,7 @@ pub fn ask(applies: bool, refusal: Refusal, rest: Outcome) -> Outcome
 }
 
 // 5: the counts.
-pub fn tasks_in_range(n: usize) -> bool
+fn tasks_in_range(n: usize) -> bool
     ensures { λ b. ⌜ b ≡ tasksInRange n ⌝ }
 {
     (1 <= n) & (n <= paper::MOST_TASKS)
@@ -43,13 +43,13 @@ pub fn counts_in_range(n: usize, m: usize) -> bool
 }
 
 // 9: the ranges.
-pub fn ticks_in_range(x: u32) -> bool
+fn ticks_in_range(x: u32) -> bool
     ensures { λ b. ⌜ b ≡ ticksInRange x ⌝ }
 {
     (1 <= x) & (x <= paper::MOST_TICKS)
 }
 
-pub fn record_in_range(r: Record) -> bool
+fn record_in_range(r: Record) -> bool
     ensures { λ b. ⌜ b ≡ recordInRange r ⌝ }
 {
     ticks_in_range(r.cost)
@@ -96,7 +96,7 @@ pub fn records_in_range(rs: [Record; paper::MOST_TASKS], n: usize) -> bool
 // 14: no task has a priority or a threshold.
 pub fn unassigned(rs: [Record; paper::MOST_TASKS], n: usize) -> bool
     requires { ⌜ n ≤ mostTasks ⌝ }
-    ensures { λ b. ⌜ b ≡ isUnassigned rs n ⌝ }
+    ensures { λ b. ⌜ b ≡ unassigned rs n ⌝ }
 {
     all_pass(rs, n, Test::Unassigned)
 }
@@ -176,7 +176,7 @@ pub fn word(list: &[u32], i: usize) -> u32
     if i < list.len() { list[i] } else { 0 }
 }
 
-pub fn words_in_range(list: &[u32], first: usize, count: usize) -> bool
+fn words_in_range(list: &[u32], first: usize, count: usize) -> bool
     requires { ⌜ first + count < 2 ^ 31 ⌝ }
     ensures { λ b. ⌜ b ≡ wordsInRange (now (list .entry)) first count ⌝ }
 {
@@ -189,7 +189,7 @@ pub fn words_in_range(list: &[u32], first: usize, count: usize) -> bool
     ok
 }
 
-pub fn words_sum(list: &[u32], first: usize, count: usize) -> u64
+fn words_sum(list: &[u32], first: usize, count: usize) -> u64
     requires { ⌜ first + count < 2 ^ 31 ⌝ }
     ensures { λ x. ⌜ x ≡ wordsSum (now (list .entry)) first count ⌝ }
 {
@@ -202,16 +202,19 @@ pub fn words_sum(list: &[u32], first: usize, count: usize) -> u64
     sum
 }
 
+// The most that `first` or `count` of a record may be: 7 bits each in the file.
+const MOST_PLACE: usize = 127;
+
 // The bounds come first, so that no count makes the loops long.
-pub fn regions_hold(list: &[u32], first: u32, count: u32, c: u32) -> bool
+fn regions_hold(list: &[u32], first: u32, count: u32, c: u32) -> bool
     ensures { λ b. ⌜ b ≡ regionsHold (now (list .entry)) first count c ⌝ }
 {
     let from = first as usize;
     let many = count as usize;
-    if 127 < from {
+    if MOST_PLACE < from {
         return false;
     }
-    if 127 < many {
+    if MOST_PLACE < many {
         return false;
     }
     if list.len() < from + many {
@@ -275,7 +278,7 @@ pub fn all_regions_hold(
     words_in_range(own, 0, m) & records_regions_hold(rs, n, own, catalogue)
 }
 
-// What response times ask. A wrong n ends it: the other checks look at n records.
+// What response times ask, in the order asked. n comes first: the other checks look at n records.
 pub fn times_outcome(t: Table) -> Outcome
     ensures { λ x. ⌜ x ≡ firstOf (timesAsks t) ⌝ }
 {
@@ -284,12 +287,16 @@ pub fn times_outcome(t: Table) -> Outcome
     if !tasks_in_range(n) {
         return Outcome::Refused(Refusal::WrongCounts);
     }
-    let ranges = records_in_range(rs, n);
-    let assignment = assignment_holds(rs, n);
-    let none = unassigned(rs, n);
-    let third = ask(none, Refusal::Unassigned, Outcome::Done);
-    let second = ask(!assignment, Refusal::BadAssignment, third);
-    ask(!ranges, Refusal::OutOfRange, second)
+    if !records_in_range(rs, n) {
+        return Outcome::Refused(Refusal::OutOfRange);
+    }
+    if !assignment_holds(rs, n) {
+        return Outcome::Refused(Refusal::BadAssignment);
+    }
+    if unassigned(rs, n) {
+        return Outcome::Refused(Refusal::Unassigned);
+    }
+    Outcome::Done
 }
 
 // What tolerances ask: the same, and then the deadlines.
@@ -301,11 +308,10 @@ pub fn tolerances_outcome(t: Table) -> Outcome
         Outcome::Refused(r) => Outcome::Refused(r),
         Outcome::Done => {
             let rs = t.records;
-            ask(
-                !deadlines_hold(rs, t.n),
-                Refusal::DeadlineAbovePeriod,
-                Outcome::Done,
-            )
+            if !deadlines_hold(rs, t.n) {
+                return Outcome::Refused(Refusal::DeadlineAbovePeriod);
+            }
+            Outcome::Done
         }
     }
 }
@@ -314,11 +320,15 @@ pub fn tolerances_outcome(t: Table) -> Outcome
 pub fn first_outcome(t: Table, room: usize) -> Outcome
     ensures { λ x. ⌜ x ≡ firstOf (firstAsks t room) ⌝ }
 {
-    let n = t.n;
     let rs = t.records;
-    if !tasks_in_range(n) {
+    if !tasks_in_range(t.n) {
         return Outcome::Refused(Refusal::WrongCounts);
     }
-    let no_room = ask(room < 2 * n, Refusal::NoRoom, Outcome::Done);
-    ask(!records_in_range(rs, n), Refusal::OutOfRange, no_room)
+    if !records_in_range(rs, t.n) {
+        return Outcome::Refused(Refusal::OutOfRange);
+    }
+    if room < 2 * t.n {
+        return Outcome::Refused(Refusal::NoRoom);
+    }
+    Outcome::Done
 }
