@@ -3,15 +3,15 @@ use Prim.Native.Nat.{ℕ, _≤_}
 use mathlib.Core.Path.{_≡_}
 use mathlib.Core.Bool.{true, false}
 use mathlib.Core.List.{[], _∷_}
-use borrow.Author.Tests.{ltb-false}
+use borrow.Author.Tests.{leb-true, ltb-false}
 use lib.Dec.{leb}
 use Rattle.paper.specs.Vocabulary.{every}
-use Rattle.paper.specs.Numbers.{mostTasks, rec, tasksInRange, recordsInRange, unassigned, assignmentHolds}
+use Rattle.paper.specs.Numbers.{mostTasks, mostWords, rec, tasksInRange, countsInRange, recordsInRange, unassigned, assignmentHolds}
 use Rattle.paper.specs.Rows.{rowSize}
 use Rattle.paper.specs.Refusals.{firstOf, timesAsks, tolerancesAsks, firstAsks, deadlineAbovePeriod}
 use Rattle.paper.specs.declared.Table.{Table}
 use Rattle.paper.specs.declared.Outcome.the-variants.{Done}
-use Rattle.paper.proofs.Tests.{within}
+use Rattle.paper.proofs.Tests.{both, within}
 use Rattle.columns.specs.Columns.{columnOf, Fair}
 use Rattle.columns.specs.declared.Column.the-variants.{Cost, Period, Deadline, Priority, Threshold}
 use Rattle.columns.proofs.Fair.{fair}
@@ -24,6 +24,16 @@ some n e = within 1 mostTasks n e .0
 
 pub few : (n : ℕ) → tasksInRange n ≡ true → n ≤ mostTasks
 few n e = within 1 mostTasks n e .1
+
+-- and how many region words
+pub record Counts (n m : ℕ) : Type 0 where
+  pub tasks : n ≤ mostTasks
+  pub words : m ≤ mostWords
+
+pub counts-say : (n m : ℕ) → countsInRange n m ≡ true → Counts n m
+counts-say n m e =
+    let p = both (tasksInRange n) (leb m mostWords) e in
+    record { tasks = few n (p .0); words = leb-true m mostWords (p .1) }
 
 -- response times
 pub record TimesFacts (t : Table) : Type 0 where

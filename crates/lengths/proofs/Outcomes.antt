@@ -3,11 +3,10 @@ use Prim.Native.Nat.{ℕ, _≤_, _<_}
 use mathlib.Core.Path.{_≡_, sym, ap, _∙_}
 use mathlib.Core.Bool.{Bool, true, false}
 use mathlib.Core.List.{List, [], _∷_}
-use borrow.Author.Tests.{lt-ltb, le-ltb, leb-true}
-use lib.Dec.{leb}
+use borrow.Author.Tests.{lt-ltb, le-ltb}
 use lib.IntN.{ℤ, pos}
 use lib.ListN.{length, replicate}
-use Rattle.paper.specs.Numbers.{mostTasks, mostWords, perTask, tasksInRange, countsInRange, recordsInRange}
+use Rattle.paper.specs.Numbers.{mostTasks, perTask, countsInRange, recordsInRange}
 use Rattle.paper.specs.Refusals.{firstOf, tolerancesAsks, belowZeroAt}
 use Rattle.paper.specs.Answers.{whenDone, ticksFor, fitFor}
 use Rattle.paper.specs.declared.Table.{Table}
@@ -17,9 +16,8 @@ use Rattle.paper.specs.declared.Outcome.{Outcome}
 use Rattle.paper.specs.declared.Outcome.the-variants.{Done, Refused}
 use Rattle.paper.specs.declared.TicksAnswer.{TicksAnswer}
 use Rattle.paper.specs.declared.FitAnswer.the-variants as Fit
-use Rattle.paper.proofs.Tests.{both}
 use Rattle.paper.proofs.Asks.{met}
-use Rattle.checks.proofs.Meaning.{few, tolerances-done}
+use Rattle.checks.proofs.Meaning.{few, counts-say, tolerances-done}
 use Rattle.lengths.specs.Stages.{earlyAsks, turnedAway}
 
 pub ticks-refused : {o : Outcome} (r : Refusal) (n : ℕ) (f : ℕ → ℤ) → o ≡ Refused r → turnedAway r ≡ ticksFor o n f
@@ -40,17 +38,12 @@ below-done l e h = rw (← e, le-ltb 0 l h)
 pub in-range : (t : Table) → firstOf (tolerancesAsks t) ≡ Done → (t .n ≤ mostTasks) × (recordsInRange (t .records) (t .n) ≡ true)
 in-range t e = let f = tolerances-done t e .times in (few (t .n) (f .counts), f .ranges)
 
--- what the counts' test says
-pub counts-say : (n m : ℕ) → countsInRange n m ≡ true → (n ≤ mostTasks) × (m ≤ mostWords)
-counts-say n m e =
-    let p = both (tasksInRange n) (leb m mostWords) e in
-    (few n (p .0), leb-true m mostWords (p .1))
-
+-- and where the region check asks nothing more before them
 pub early-done : (t : Table) (own catalogue : List ℕ) → firstOf (earlyAsks t own catalogue) ≡ Done
     → (t .n ≤ mostTasks) × (recordsInRange (t .records) (t .n) ≡ true)
 early-done t own catalogue e =
     let c = met (countsInRange (t .n) (length own)) _ _ e in
-    (counts-say (t .n) (length own) (c .0) .0, met (recordsInRange (t .records) (t .n)) _ _ (c .1) .0)
+    (counts-say (t .n) (length own) (c .0) .tasks, met (recordsInRange (t .records) (t .n)) _ _ (c .1) .0)
 
 -- the parts of an answer
 module _ {a : TicksAnswer} {o : Outcome} (n : ℕ) (f : ℕ → ℤ) (e : a ≡ ticksFor o n f) where

@@ -1,12 +1,12 @@
 -- What the stages of a call promise each other.
 use Prim.Native.Nat.{ℕ}
-use mathlib.Core.List.{List, [], _∷_}
+use mathlib.Core.List.{List}
 use lib.Dec.{ltb}
 use lib.IntN.{ℤ, pos}
-use lib.ListN.{getD, length, replicate}
+use lib.ListN.{getD, replicate, take}
 use Rattle.paper.specs.Numbers.{mostTasks}
 use Rattle.paper.specs.Lengths.{leastOf}
-use Rattle.paper.specs.Refusals.{Asks, wrongCounts, outOfRange, badAssignment, badRegions, isUnassigned, deadlineAbovePeriod}
+use Rattle.paper.specs.Refusals.{Asks, fitAsks}
 use Rattle.paper.specs.declared.Table.{Table}
 use Rattle.paper.specs.declared.Refusal.{Refusal}
 use Rattle.paper.specs.declared.Outcome.the-variants.{Refused}
@@ -18,13 +18,7 @@ lengthBy n cs ps ticks k = leastOf n (λ j. ltb (getD ps j 0) (getD ps k 0)) (λ
 
 -- what the region check asks before the tolerances: all but 16
 abbrev pub earlyAsks : Table → List ℕ → List ℕ → Asks
-earlyAsks t own catalogue =
-    wrongCounts (t .n) (length own) ∷
-    outOfRange (t .records) (t .n) ∷
-    badAssignment (t .records) (t .n) ∷
-    badRegions (t .records) (t .n) own catalogue ∷
-    isUnassigned t ∷
-    deadlineAbovePeriod t ∷ []
+earlyAsks t own catalogue = take 6 (fitAsks t own catalogue)
 
 -- the answer of a call that is turned away
 abbrev pub turnedAway : Refusal → TicksAnswer

@@ -220,7 +220,7 @@ fn all_fit(
     ok
 }
 
-// All that the region check asks before the tolerances. A wrong n or m ends it: the other checks look at n records and m words.
+// All that the region check asks before the tolerances, in the paper's order. The checks behind the first look at n records and m words.
 fn early_outcome(t: Table, own: &[u32], catalogue: &[u32]) -> Outcome
     ensures { λ x. ⌜ x ≡ firstOf (earlyAsks t (now (own .entry)) (now (catalogue .entry))) ⌝ }
 {
@@ -229,27 +229,22 @@ fn early_outcome(t: Table, own: &[u32], catalogue: &[u32]) -> Outcome
     if !checks::counts_in_range(n, own.len()) {
         return Outcome::Refused(Refusal::WrongCounts);
     }
-    let deadlines = checks::ask(
-        !checks::deadlines_hold(rs, n),
-        Refusal::DeadlineAbovePeriod,
-        Outcome::Done,
-    );
-    let unassigned = checks::ask(checks::unassigned(rs, n), Refusal::Unassigned, deadlines);
-    let regions = checks::ask(
-        !checks::all_regions_hold(rs, n, own, catalogue),
-        Refusal::BadRegions,
-        unassigned,
-    );
-    let assignment = checks::ask(
-        !checks::assignment_holds(rs, n),
-        Refusal::BadAssignment,
-        regions,
-    );
-    checks::ask(
-        !checks::records_in_range(rs, n),
-        Refusal::OutOfRange,
-        assignment,
-    )
+    if !checks::records_in_range(rs, n) {
+        return Outcome::Refused(Refusal::OutOfRange);
+    }
+    if !checks::assignment_holds(rs, n) {
+        return Outcome::Refused(Refusal::BadAssignment);
+    }
+    if !checks::all_regions_hold(rs, n, own, catalogue) {
+        return Outcome::Refused(Refusal::BadRegions);
+    }
+    if checks::unassigned(rs, n) {
+        return Outcome::Refused(Refusal::Unassigned);
+    }
+    if !checks::deadlines_hold(rs, n) {
+        return Outcome::Refused(Refusal::DeadlineAbovePeriod);
+    }
+    Outcome::Done
 }
 
 // What is left of a region check once none of those applies: refusal 16, or the answer.

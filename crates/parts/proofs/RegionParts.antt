@@ -15,19 +15,19 @@ use Rattle.paper.specs.declared.Refusal.{Refusal}
 use Rattle.paper.specs.declared.Table.{Table}
 use Rattle.paper.specs.declared.Outcome.{Outcome}
 use Rattle.paper.specs.declared.Outcome.the-variants.{Done, Refused}
-use Rattle.paper.specs.Numbers.{mostTasks, mostWords, rec, tasksInRange, countsInRange}
+use Rattle.paper.specs.Numbers.{mostTasks, rec, countsInRange}
 use Rattle.paper.specs.Regions.{noPart, listOf, wordsInRange, wordsSum, regionsHold, recordRegionsHold, regionsPart}
 use Rattle.paper.specs.Answers.{regionsOutcome, regionsSource}
 use Rattle.paper.proofs.Tests.{both, within}
 use Rattle.paper.proofs.Asks.{met}
-use Rattle.checks.proofs.Meaning.{few}
+use Rattle.checks.proofs.Meaning.{counts-say}
 use Rattle.parts.specs.Parts.{IsPart, sliceOf, AreRegions}
 use Rattle.parts.proofs.Asked.{when-done, when-refused, is-part}
 
 pub numbered : (n m number : ℕ) → countsInRange n m ≡ true → (leb 1 number && leb number n) ≡ true → (1 ≤ number) × (number ≤ mostTasks)
 numbered n m number counts named =
     let p = within 1 n number named in
-    let most = few n (both (tasksInRange n) (leb m mostWords) counts .0) in
+    let most = counts-say n m counts .tasks in
     (p .0, omega arith)
 
 words-inside : (list : List ℕ) (first count c : ℕ) → regionsHold list first count c ≡ true → first + count ≤ length list

@@ -4,10 +4,10 @@ use mathlib.Core.Bool.{Bool, true, false, not}
 use mathlib.Core.List.{List, [], _∷_, _++_}
 use Prim.Native.Nat.{ℕ, _-_, _≤_}
 use native.Mathlib.Omega.{arith}
-use borrow.Author.Tests.{leb-true, ltb-false, eqb-true, not-false, eq-eqb, ne-eqb, le-ltb}
-use lib.Dec.{leb, eqb}
+use borrow.Author.Tests.{ltb-false, eqb-true, not-false, eq-eqb, ne-eqb, le-ltb}
+use lib.Dec.{eqb}
 use lib.ListN.{length, drop}
-use Rattle.paper.specs.Numbers.{mostTasks, mostWords, tasksInRange}
+use Rattle.paper.specs.Numbers.{mostWords}
 use Rattle.paper.specs.File.{tasksIn, wordsIn, fileLength, sealed, spareClear, recordsIn, regionWords}
 use Rattle.paper.specs.Refusals.{Asks, firstOf, outOfRange, badAssignment, badRegions, noRoom, fileAsks, readAsks}
 use Rattle.paper.specs.Answers.{noTable, tableFor, wordsFor, readAnswer, readOut}
@@ -19,8 +19,8 @@ use Rattle.paper.specs.declared.Outcome.{Outcome}
 use Rattle.paper.specs.declared.Outcome.the-variants.{Done, Refused}
 use Rattle.paper.specs.declared.ReadAnswer.{ReadAnswer}
 use Rattle.paper.proofs.Asks.{done-none}
-use Rattle.paper.proofs.Tests.{both}
 use Rattle.checks.proofs.Asks.{first-passed, first-refused, first-done}
+use Rattle.checks.proofs.Meaning.{counts-say}
 use Rattle.unpack.specs.Unpack.{Sized}
 use Rattle.unpack.proofs.Words.{words-length}
 use Rattle.reader.specs.Stages.{headAsks, bodyAsks, Unpacked}
@@ -54,10 +54,10 @@ own-few {f} {n} {m} u = rw (u .regions, words-length f n m) (u .sized .words)
 pub head-says : (f : List ℕ) (cabinet line : ℕ) → firstOf (headAsks f cabinet line) ≡ Done → Sized f (tasksIn f) (wordsIn f)
 head-says f cabinet line e =
     let asks = done-none (headAsks f cabinet line) e .1 .1 .1 .1 in
-    let counts = both (tasksInRange (tasksIn f)) (leb (wordsIn f) mostWords) (not-false _ (asks .0)) in
+    let counts = counts-say (tasksIn f) (wordsIn f) (not-false _ (asks .0)) in
     record {
-      tasks = leb-true (tasksIn f) mostTasks (both (leb 1 (tasksIn f)) (leb (tasksIn f) mostTasks) (counts .0) .1);
-      words = leb-true (wordsIn f) mostWords (counts .1);
+      tasks = counts .tasks;
+      words = counts .words;
       long = eqb-true (length f) (fileLength (tasksIn f) (wordsIn f)) (not-false _ (asks .1 .0));
     }
 

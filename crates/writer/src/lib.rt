@@ -27,7 +27,7 @@ fn put_file(s: &mut [u8], t: Table, cabinet: Cabinet, line: Line, own: &[u32])
     seal::put_seal(s, end);
 }
 
-// What writing asks. Wrong counts end it: the other checks look at n records and m words.
+// What writing asks, in the paper's order. The checks behind the first look at n records and m words.
 fn outcome_of(t: Table, cabinet: Cabinet, own: &[u32], catalogue: &[u32], room: usize) -> Outcome
     ensures { λ x. ⌜ x ≡ writeOutcome t (cabinet .0) (now (own .entry)) (now (catalogue .entry)) room ⌝ }
 {
@@ -37,23 +37,20 @@ fn outcome_of(t: Table, cabinet: Cabinet, own: &[u32], catalogue: &[u32], room: 
     if !checks::counts_in_range(n, m) {
         return Outcome::Refused(Refusal::WrongCounts);
     }
-    let no_room = checks::ask(
-        room < layout::file_length(n, m),
-        Refusal::NoRoom,
-        Outcome::Done,
-    );
-    let regions = checks::ask(
-        !checks::all_regions_hold(rs, n, own, catalogue),
-        Refusal::BadRegions,
-        no_room,
-    );
-    let assignment = checks::ask(
-        !checks::assignment_holds(rs, n),
-        Refusal::BadAssignment,
-        regions,
-    );
     let in_range = (cabinet.0 <= paper::MOST_CABINET) & checks::records_in_range(rs, n);
-    checks::ask(!in_range, Refusal::OutOfRange, assignment)
+    if !in_range {
+        return Outcome::Refused(Refusal::OutOfRange);
+    }
+    if !checks::assignment_holds(rs, n) {
+        return Outcome::Refused(Refusal::BadAssignment);
+    }
+    if !checks::all_regions_hold(rs, n, own, catalogue) {
+        return Outcome::Refused(Refusal::BadRegions);
+    }
+    if room < layout::file_length(n, m) {
+        return Outcome::Refused(Refusal::NoRoom);
+    }
+    Outcome::Done
 }
 
 // Writes the file to the front of `out`: exactly its bytes, or nothing on a refusal.

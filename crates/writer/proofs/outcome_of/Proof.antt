@@ -1,21 +1,43 @@
--- `writer::outcome_of` meets its contract. Wrong counts end it; behind that test the counts are in range, and the asks follow in order.
-use mathlib.Core.Path.{refl, sym, ap, _∙_}
-use mathlib.Core.Bool.{Bool, not, _&&_}
+-- `writer::outcome_of` meets its contract. Each way out is the first ask that applies; behind the first test the counts are in range, and the other checks may run.
+use mathlib.Core.Path.{_≡_, refl, sym, ap, _∙_}
+use mathlib.Core.Bool.{not, _&&_}
 use native.Mathlib.Omega.{arith}
-use borrow.Author.Tests.{not-false}
-use lib.Dec.{leb, ltb}
-use lib.ListN.{length}
-use denote.Ref.{now}
-use Rattle.paper.specs.Numbers.{mostCabinet}
-use Rattle.paper.specs.declared.Refusal.the-variants.{WrongCounts, OutOfRange, BadAssignment, BadRegions, NoRoom}
-use Rattle.checks.proofs.Asks.{asked, stops, goes-on}
-use Rattle.writer.proofs.Steps.{Counts, counts-say}
 use borrow.Author.Needs.{needs}
+use borrow.Author.Tests.{not-false, lt-ltb, le-ltb}
+use lib.Dec.{leb, ltb}
+use lib.ListN.{length, drop}
+use denote.Ref.{now}
+use Rattle.paper.specs.Numbers.{mostCabinet, recordsInRange}
+use Rattle.paper.specs.Refusals.{Asks, firstOf, writeAsks}
+use Rattle.paper.specs.declared.Refusal.the-variants.{WrongCounts, OutOfRange, BadAssignment, BadRegions, NoRoom}
+use Rattle.paper.specs.declared.Outcome.{Outcome}
+use Rattle.checks.proofs.Asks.{stops, goes-on}
+use Rattle.checks.proofs.Meaning.{Counts, counts-say}
 use Rattle.writer.proofs.outcome_of.Statement.{statement}
 use Rattle.writer.proofs.outcome_of.Tie as tie
 
-counts-here : (c : tie.Else1) → Counts (c .before .before .before .before .before .args .t .n) (length (now (c .before .before .before .before .before .args .own)))
+counts-here : (c : tie.Else1) → let a = c .before .before .before .before .before .args in Counts (a .t .n) (length (now (a .own)))
 counts-here c = counts-say _ _ (sym (c .before .counts-in-range .ensures) ∙ not-false _ (c .if1 .left))
+
+-- Behind each test the outcome is that of the asks after it.
+abbrev asks : tie.Else1 → Asks
+asks c = let a = c .before .before .before .before .before .args in writeAsks (a .t) (a .cabinet .0) (now (a .own)) (now (a .catalogue)) (a .room)
+
+counts-passed : (c : tie.Else1) {x : Outcome} → x ≡ firstOf (drop 1 (asks c)) → x ≡ firstOf (asks c)
+counts-passed c = goes-on WrongCounts (ap not (sym (c .before .counts-in-range .ensures)) ∙ c .if1 .left)
+
+ranges-found : (c : tie.After-records-in-range) → let a = c .before .before .before .before .before .before .before .args in
+    not (leb (a .cabinet .0) mostCabinet && recordsInRange (a .t .records) (a .t .n)) ≡ not (leb (a .cabinet .0) mostCabinet && c .records-in-range .result)
+ranges-found c = rw (c .records-in-range .ensures)
+
+ranges-passed : (c : tie.Else2) {x : Outcome} → let d = c .before .before .before in x ≡ firstOf (drop 2 (asks d)) → x ≡ firstOf (asks d)
+ranges-passed c e = counts-passed (c .before .before .before) (goes-on OutOfRange (ranges-found (c .before) ∙ c .if2 .left) e)
+
+assignment-passed : (c : tie.Else3) {x : Outcome} → let d = c .before .before .before .before .before in x ≡ firstOf (drop 3 (asks d)) → x ≡ firstOf (asks d)
+assignment-passed c e = ranges-passed (c .before .before) (goes-on BadAssignment (ap not (sym (c .before .assignment-holds .ensures)) ∙ c .if3 .left) e)
+
+regions-passed : (c : tie.Else4) {x : Outcome} → let d = c .before .before .before .before .before .before .before in x ≡ firstOf (drop 4 (asks d)) → x ≡ firstOf (asks d)
+regions-passed c e = assignment-passed (c .before .before) (goes-on BadRegions (ap not (sym (c .before .all-regions-hold .ensures)) ∙ c .if4 .left) e)
 
 counts-in-range-requires : tie.Need-counts-in-range-requires
 counts-in-range-requires c κs = search needs
@@ -23,42 +45,32 @@ counts-in-range-requires c κs = search needs
 returns : tie.Need-returns
 returns c = stops WrongCounts _ (ap not (sym (c .before .counts-in-range .ensures)) ∙ c .if1 .taken)
 
-file-length-requires : tie.Need-file-length-requires
-file-length-requires c κs = let h = counts-here c in (omega (arith, h .tasks), omega (arith, h .words))
-
-ask-requires : tie.Need-ask-requires
-ask-requires c κs = search needs
-
-all-regions-hold-requires : tie.Need-all-regions-hold-requires
-all-regions-hold-requires c κs = let h = counts-here (c .before .before) in (h .tasks, h .words)
-
-ask-requires-2 : tie.Need-ask-requires-2
-ask-requires-2 c κs = search needs
-
-assignment-holds-requires : tie.Need-assignment-holds-requires
-assignment-holds-requires c κs = counts-here (c .before .before .before .before) .tasks
-
-ask-requires-3 : tie.Need-ask-requires-3
-ask-requires-3 c κs = search needs
-
 records-in-range-requires : tie.Need-records-in-range-requires
-records-in-range-requires c κs = counts-here (c .before .before .before .before .before .before .before) .tasks
-
-ask-requires-4 : tie.Need-ask-requires-4
-ask-requires-4 c κs = search needs
+records-in-range-requires c κs = counts-here (c .before) .tasks
 
 returns-2 : tie.Need-returns-2
-returns-2 c =
-    let d = c .before .before .before in
-    let e = d .before .before in
-    let g = e .before .before in
-    let h = g .before .before in
-    let a = h .before .before .before .before .before .args in
-    goes-on WrongCounts (ap not (sym (h .before .counts-in-range .ensures)) ∙ h .if1 .left)
-    (asked OutOfRange (c .ask4 .ensures) (ap (λ (b : Bool). not (leb (a .cabinet .0) mostCabinet && b)) (c .before .records-in-range .ensures))
-    (asked BadAssignment (d .ask3 .ensures) (ap not (d .before .assignment-holds .ensures))
-    (asked BadRegions (e .ask2 .ensures) (ap not (e .before .all-regions-hold .ensures))
-    (asked NoRoom (g .ask .ensures) (ap (ltb (a .room)) (g .before .file-length .ensures)) refl))))
+returns-2 c = counts-passed (c .before .before .before) (stops OutOfRange _ (ranges-found (c .before) ∙ c .if2 .taken))
+
+assignment-holds-requires : tie.Need-assignment-holds-requires
+assignment-holds-requires c κs = counts-here (c .before .before .before) .tasks
+
+returns-3 : tie.Need-returns-3
+returns-3 c = ranges-passed (c .before .before) (stops BadAssignment _ (ap not (sym (c .before .assignment-holds .ensures)) ∙ c .if3 .taken))
+
+all-regions-hold-requires : tie.Need-all-regions-hold-requires
+all-regions-hold-requires c κs = let h = counts-here (c .before .before .before .before .before) in (h .tasks, h .words)
+
+returns-4 : tie.Need-returns-4
+returns-4 c = assignment-passed (c .before .before) (stops BadRegions _ (ap not (sym (c .before .all-regions-hold .ensures)) ∙ c .if4 .taken))
+
+file-length-requires : tie.Need-file-length-requires
+file-length-requires c κs = let h = counts-here (c .before .before .before .before .before .before .before) in (omega (arith, h .tasks), omega (arith, h .words))
+
+returns-5 : tie.Need-returns-5
+returns-5 c = regions-passed (c .before .before) (stops NoRoom _ (ap (ltb _) (sym (c .before .file-length .ensures)) ∙ lt-ltb _ _ (c .if5 .taken)))
+
+returns-6 : tie.Need-returns-6
+returns-6 c = regions-passed (c .before .before) (goes-on NoRoom (ap (ltb _) (sym (c .before .file-length .ensures)) ∙ le-ltb _ _ (c .if5 .left)) refl)
 
 pub outcome-of-spec : {M : Type 1} → statement M
 outcome-of-spec =
@@ -66,12 +78,12 @@ outcome-of-spec =
     (tie.spec
     counts-in-range-requires
     returns
-    file-length-requires
-    ask-requires
-    all-regions-hold-requires
-    ask-requires-2
-    assignment-holds-requires
-    ask-requires-3
     records-in-range-requires
-    ask-requires-4
-    returns-2)
+    returns-2
+    assignment-holds-requires
+    returns-3
+    all-regions-hold-requires
+    returns-4
+    file-length-requires
+    returns-5
+    returns-6)
