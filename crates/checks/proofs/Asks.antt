@@ -10,10 +10,6 @@ use Rattle.paper.specs.declared.Outcome.{Outcome}
 use Rattle.paper.specs.declared.Outcome.the-variants.{Done, Refused}
 use Rattle.paper.proofs.Asks.{clear}
 
--- what a call of `ask` gives, with the condition and the rest put in the paper's words
-pub asked : (r : Refusal) {b b' : Bool} {x o o' : Outcome} → x ≡ cond b (Refused r) o → b ≡ b' → o ≡ o' → x ≡ cond b' (Refused r) o'
-asked r e f g = rw (← f, ← g) e
-
 -- an early return: the first ask applies
 pub stops : (r : Refusal) (o : Outcome) {b : Bool} → b ≡ true → Refused r ≡ cond b (Refused r) o
 stops r o e = rw e

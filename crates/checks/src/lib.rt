@@ -1,6 +1,6 @@
-// The conditions that the refusals 5, 9, 10, 11, 14 and 15 ask, shared by all calls.
+// The conditions that the refusals 5, 9, 10, 11, 14 and 15 ask, shared by all calls; and what calls ask that are lent a table alone.
 ghost use mathlib.Core.Path.{_≡_};
-ghost use mathlib.Core.Bool.{cond, not};
+ghost use mathlib.Core.Bool.{not};
 ghost use Prim.Native.Nat.{_+_, _<_, _≤_, _^_};
 ghost use lib.Dec.{leb, eqb};
 ghost use lib.ListN.{length, getD};
@@ -8,7 +8,6 @@ ghost use Rattle.paper.specs.Vocabulary.{every};
 ghost use Rattle.paper.specs.Numbers.{mostTasks, mostWords, rec, tasksInRange, countsInRange, ticksInRange, recordInRange, recordsInRange, eachOnce, thresholdsHold, unassigned, assignmentHolds};
 ghost use Rattle.paper.specs.Regions.{listOf, wordsInRange, wordsSum, regionsHold, recordRegionsHold, allRegionsHold};
 ghost use Rattle.paper.specs.Refusals.{firstOf, timesAsks, tolerancesAsks, firstAsks};
-ghost use Rattle.paper.specs.declared.Outcome.the-variants.{Refused};
 ghost use Rattle.columns.specs.Columns.{assignedBy};
 ghost use Rattle.checks.specs.Tests.{passesTest};
 use columns::Column;
@@ -17,17 +16,6 @@ use paper::Record;
 use paper::Refusal;
 use paper::Source;
 use paper::Table;
-
-// One ask of a list, before the rest of it.
-pub fn ask(applies: bool, refusal: Refusal, rest: Outcome) -> Outcome
-    ensures { λ x. ⌜ x ≡ cond applies (Refused refusal) rest ⌝ }
-{
-    if applies {
-        Outcome::Refused(refusal)
-    } else {
-        rest
-    }
-}
 
 // 5: the counts.
 fn tasks_in_range(n: usize) -> bool

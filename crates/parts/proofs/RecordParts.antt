@@ -18,7 +18,7 @@ use Rattle.paper.specs.Refusals.{firstOf, noSuchRecord, fileAsks}
 use Rattle.paper.specs.Answers.{recordOutcome}
 use Rattle.paper.proofs.Tests.{within}
 use Rattle.paper.proofs.Asks.{met}
-use Rattle.checks.proofs.Asks.{asked, first-passed, first-refused, first-done}
+use Rattle.checks.proofs.Asks.{first-passed, first-refused, first-done}
 use Rattle.reader.proofs.Meaning.{file-says}
 use Rattle.parts.specs.Parts.{IsPart, IsRecord}
 use Rattle.parts.proofs.Asked.{when-done, when-refused, is-part}
@@ -31,7 +31,8 @@ module _ (f : List ℕ) (cabinet line : ℕ) (catalogue : List ℕ) (number : �
   pub number-asked : (x : Outcome) (n : ℕ) (b : Bool) → Done ≡ firstOf (fileAsks f cabinet line catalogue) → n ≡ tasksIn f → b ≡ (leb 1 number && leb number n)
       → x ≡ cond (not b) (Refused NoSuchPart) Done → x ≡ recordOutcome f cabinet line catalogue number
   number-asked x n b e en eb ex =
-      asked NoSuchPart ex (ap not (eb ∙ ap (λ (k : ℕ). leb 1 number && leb number k) en)) refl
+      ex
+      ∙ ap (λ (b : Bool). cond (not b) (Refused NoSuchPart) Done) (eb ∙ ap (λ (k : ℕ). leb 1 number && leb number k) en)
       ∙ sym (first-passed (fileAsks f cabinet line catalogue) (noSuchRecord number (tasksIn f) ∷ []) (sym e))
 
 pub record InFile (f : List ℕ) (number : ℕ) : Type 0 where

@@ -160,8 +160,10 @@ pub fn regions_outcome<'a>(t: Table, own: &'a [u32], catalogue: &'a [u32], numbe
     if !is_record(number, n) {
         return Outcome::Refused(Refusal::NoSuchPart);
     }
-    let hold = checks::record_regions_hold(own, catalogue, record_of(t, number));
-    checks::ask(!hold, Refusal::BadRegions, Outcome::Done)
+    if !checks::record_regions_hold(own, catalogue, record_of(t, number)) {
+        return Outcome::Refused(Refusal::BadRegions);
+    }
+    Outcome::Done
 }
 
 fn regions_for<'a>(
@@ -217,7 +219,10 @@ pub fn record_outcome(
         Outcome::Refused(r) => Outcome::Refused(r),
         Outcome::Done => {
             let n = layout::task_count(file);
-            checks::ask(!is_record(number, n), Refusal::NoSuchPart, Outcome::Done)
+            if !is_record(number, n) {
+                return Outcome::Refused(Refusal::NoSuchPart);
+            }
+            Outcome::Done
         }
     }
 }

@@ -1,7 +1,13 @@
 -- A refusal of the file is the answer; else the number decides.
-use mathlib.Core.Path.{sym, _∙_}
+use mathlib.Core.Path.{_≡_, refl, sym, _∙_}
+use mathlib.Core.Bool.{not, cond}
 use native.Mathlib.Omega.{arith}
 use denote.Ref.{now}
+use Rattle.paper.specs.Answers.{recordOutcome}
+use Rattle.paper.specs.declared.Refusal.the-variants.{NoSuchPart}
+use Rattle.paper.specs.declared.Outcome.{Outcome}
+use Rattle.paper.specs.declared.Outcome.the-variants.{Done, Refused}
+use Rattle.checks.proofs.Asks.{stops, goes-on}
 use Rattle.reader.proofs.Meaning.{file-says}
 use Rattle.parts.proofs.RecordParts.{file-refused, number-asked}
 use borrow.Author.Needs.{needs}
@@ -27,21 +33,26 @@ task-count-requires c κs =
 is-record-requires : tie.Need-is-record-requires
 is-record-requires c κs = search needs
 
-ask-requires : tie.Need-ask-requires
-ask-requires c κs = search needs
+-- the file reads, so the number decides
+decided : (c : tie.After-is-record) {x : Outcome} → x ≡ cond (not (c .is-record .result)) (Refused NoSuchPart) Done
+    → let s = c .before .before .before .before .before .before .before .args in x ≡ recordOutcome (now (s .file)) (s .cabinet .0) (s .line .0) (now (s .catalogue)) (s .number)
+decided c e =
+    let o = c .before .before .before .before in
+    let a = o .before .before .before .args in
+    number-asked (now (a .file)) (a .cabinet .0) (a .line .0) (now (a .catalogue)) (a .number) _ _ _
+    (sym (c .before .before .enum-told .given .1) ∙ o .file-outcome .ensures) (c .before .task-count .ensures .0) (c .is-record .ensures) e
 
 returns : tie.Need-returns
-returns c =
+returns c = decided (c .before) (stops NoSuchPart _ (c .if1 .taken))
+
+returns-2 : tie.Need-returns-2
+returns-2 c =
     let o = c .before .before .before in
     let a = o .before .before .before .args in
     file-refused (now (a .file)) (a .cabinet .0) (a .line .0) (now (a .catalogue)) (a .number) _ (sym (c .before .outcome .given .1) ∙ o .file-outcome .ensures)
 
-returns-2 : tie.Need-returns-2
-returns-2 c =
-    let o = c .before .before .before .before .before in
-    let a = o .before .before .before .args in
-    number-asked (now (a .file)) (a .cabinet .0) (a .line .0) (now (a .catalogue)) (a .number) _ _ _
-    (sym (c .before .before .before .enum-told .given .1) ∙ o .file-outcome .ensures) (c .before .before .task-count .ensures .0) (c .before .is-record .ensures) (c .ask .ensures)
+returns-3 : tie.Need-returns-3
+returns-3 c = decided (c .before) (goes-on NoSuchPart (c .if1 .left) refl)
 
 pub record-outcome-spec : {M : Type 1} → statement M
 record-outcome-spec =
@@ -52,6 +63,6 @@ record-outcome-spec =
     enum-told
     task-count-requires
     is-record-requires
-    ask-requires
     returns
-    returns-2)
+    returns-2
+    returns-3)
