@@ -1,5 +1,8 @@
 // Lists every passing assignment of a cabinet file. From standard input: five plate bytes (cabinet 24, line 16), then the
-// file. Its regions stand in the file: the catalogue is empty.
+// file. Document 01 gives this program an empty catalogue, so a file with regions of a catalogue is refused with 11.
+//
+// Where standard input can't be read or standard output can't be written, it says so on standard error and stops: a list that
+// lost rows has no last line with a total.
 ghost use Prim.Native.Nat.{_≤_};
 ghost use lib.ListN.{length};
 use paper::MOST_TASKS;
@@ -71,7 +74,7 @@ fn put_rows(buf: &mut [u8], at: usize, t: Table, row: &mut [u8]) -> usize
     let mut end = at;
     let mut rows: u64 = 0;
     let mut found = is_row(listing::first_row(t, row));
-    while rows < MOST_ROWS && found {
+    while rows < MOST_ROWS && found && !text::lost(buf, end) {
         end = put_row(buf, end, row);
         rows += 1;
         found = step(t, row);
@@ -118,7 +121,12 @@ fn put_list(buf: &mut [u8], input: &[u8]) -> usize
 
 fn main() {
     let mut input = [0u8; PLATE_AND_FILE];
-    let n = io::read_full(libc::STDIN_FILENO, &mut input);
+    let got = intake::read_whole(libc::STDIN_FILENO, &mut input);
+    if got.failed {
+        os::fail(b"standard input");
+        return;
+    }
+    let n = got.bytes;
     let mut buf = io::large_buffer();
     let end = put_list(&mut buf, &input[..n]);
     text::flush(&buf, end);

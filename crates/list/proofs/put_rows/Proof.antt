@@ -21,6 +21,9 @@ is-row-requires c κs = search needs
 loop-holds : tie.Need-loop-holds Inv-loop μ-loop
 loop-holds c = search needs
 
+lost-requires : tie.Need-lost-requires Inv-loop μ-loop
+lost-requires c κs = search needs
+
 put-row-requires : tie.Need-put-row-requires Inv-loop μ-loop
 put-row-requires c κs = search needs
 
@@ -57,6 +60,7 @@ put-rows-spec =
     first-row-requires
     is-row-requires
     loop-holds
+    lost-requires
     put-row-requires
     add-rows
     step-requires
