@@ -9,7 +9,7 @@ pub struct Catalogue {
     pub words: usize,
     // There are more numbers than the list has room for.
     pub more: bool,
-    // The line, counted from 1, with the first thing that is no number of at most nine digits; 0 where there is none.
+    // The line, counted from 1, with the first thing that is no number below 1,000,000,000; 0 where there is none.
     pub wrong: usize,
 }
 

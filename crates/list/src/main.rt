@@ -74,10 +74,11 @@ fn put_rows(buf: &mut [u8], at: usize, t: Table, row: &mut [u8]) -> usize
     let mut end = at;
     let mut rows: u64 = 0;
     let mut found = is_row(listing::first_row(t, row));
-    while rows < MOST_ROWS && found && !text::lost(buf, end) {
+    while rows < MOST_ROWS && found {
         end = put_row(buf, end, row);
         rows += 1;
-        found = step(t, row);
+        // No search for a row that could not be shown any more.
+        found = !text::lost(buf, end) && step(t, row);
     }
     put_end(buf, end, rows)
 }

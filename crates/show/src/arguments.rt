@@ -67,6 +67,10 @@ fn tell(path: &[u8], words: &[u8]) {
 }
 
 fn tell_length(path: &[u8], bytes: usize) {
+    if bytes == 0 {
+        tell(path, b": no name at all\n");
+        return;
+    }
     if LIST < bytes {
         tell(
             path,
@@ -116,7 +120,7 @@ fn tell_wrong(path: &[u8], line: usize) {
     io::print_decimal(libc::STDERR_FILENO, line as u64);
     io::write_all(
         libc::STDERR_FILENO,
-        b" holds something that is no number of at most nine digits\n",
+        b" holds something that is no number below 1,000,000,000\n",
     );
 }
 

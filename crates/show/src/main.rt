@@ -7,6 +7,7 @@
 // The table's headings: due is the deadline, pr the priority, th the threshold, resp the response time, slack what is left
 // from it to the deadline, tol the tolerance, and fit whether every region of the job is at most its length.
 mod arguments;
+mod unnamed;
 
 ghost use Prim.Native.Nat.{_≤_};
 ghost use lib.ListN.{length};
@@ -115,6 +116,8 @@ fn put_file<'a>(
         Outcome::Refused(r) => put_refused(buf, plated, r, file, catalogue),
         Outcome::Done => {
             let t = answer.table;
+            let rs = t.records;
+            unnamed::tell(rs, t.n, cabinet_names, house_names);
             let m = fronts::of_words(&words, answer.words);
             let start = put_jobs(buf, plated, t);
             show_sheet::put_sheet(
