@@ -8,6 +8,8 @@ mod analysis;
 mod bits;
 #[path = "../second/checks.rs"]
 mod checks;
+#[path = "../second/draw.rs"]
+mod draw;
 #[path = "../second/file.rs"]
 mod file;
 #[path = "../second/generate.rs"]
@@ -18,6 +20,8 @@ mod lengths;
 mod random;
 #[path = "../second/seal.rs"]
 mod seal;
+#[path = "../second/spoil.rs"]
+mod spoil;
 #[path = "../second/table.rs"]
 mod table;
 

@@ -72,7 +72,7 @@ fn answer(kind: u8, body: Body) -> Option<String> {
 }
 
 /// What is left of a request's body. Each piece is `None` where the body is too short for it.
-struct Body<'a>(&'a [u8]);
+pub struct Body<'a>(pub &'a [u8]);
 
 impl<'a> Body<'a> {
     fn part(&mut self, length: usize) -> Option<&'a [u8]> {
@@ -85,7 +85,7 @@ impl<'a> Body<'a> {
         Some(self.part(1)?[0])
     }
 
-    fn two(&mut self) -> Option<u16> {
+    pub fn two(&mut self) -> Option<u16> {
         Some(u16::from_be_bytes(self.part(2)?.try_into().ok()?))
     }
 
@@ -93,24 +93,24 @@ impl<'a> Body<'a> {
         Some(u32::from_be_bytes(self.part(4)?.try_into().ok()?))
     }
 
-    fn plate(&mut self) -> Option<Plate> {
+    pub fn plate(&mut self) -> Option<Plate> {
         Some(Plate {
             cabinet: self.four()?,
             line: self.two()?,
         })
     }
 
-    fn bytes(&mut self) -> Option<&'a [u8]> {
+    pub fn bytes(&mut self) -> Option<&'a [u8]> {
         let count = self.two()?;
         self.part(count as usize)
     }
 
-    fn words(&mut self) -> Option<Vec<u32>> {
+    pub fn words(&mut self) -> Option<Vec<u32>> {
         let count = self.two()?;
         (0..count).map(|_| self.four()).collect()
     }
 
-    fn table(&mut self) -> Option<Table> {
+    pub fn table(&mut self) -> Option<Table> {
         let mut table = Table {
             n: self.one()?,
             ..Table::default()

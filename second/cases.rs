@@ -4,6 +4,7 @@
 
 use crate::file;
 use crate::generate::*;
+use crate::spoil::{clear, in_record, put, seal_again};
 use crate::table::*;
 use std::fmt::Write as _;
 use std::io;
@@ -16,7 +17,7 @@ struct Case {
 }
 
 /// The calls by kind, with the numbers that document 01 says each of them asks.
-const CALLS: [(&str, &[u8]); 11] = [
+pub const CALLS: [(&str, &[u8]); 11] = [
     ("read", &[1, 2, 3, 4, 5, 6, 7, 8, 9, 10, 11, 12]),
     ("write", &[5, 9, 10, 11, 12]),
     ("response times", &[5, 9, 10, 14]),
@@ -155,12 +156,6 @@ fn record_changed(k: usize, change: impl Fn(&mut Record)) -> Table {
     changed(|table| change(&mut table.records[k]))
 }
 
-fn clear(table: &mut Table) {
-    for record in &mut table.records {
-        (record.priority, record.threshold) = (0, 0);
-    }
-}
-
 /// The table with a record's regions in the catalogue, from this word on.
 fn lent(table: &Table, k: usize, first: u32) -> Table {
     let mut table = *table;
@@ -177,15 +172,6 @@ fn file_of(table: &Table, own: &[u32], catalogue: &[u32]) -> Vec<u8> {
 fn two_jobs_file() -> Vec<u8> {
     let (table, own) = two_jobs();
     file_of(&table, &own, &[])
-}
-
-/// Puts a value into the field of this many bits that starts at this bit of the file.
-fn put(file: &mut [u8], at: usize, width: usize, value: u32) {
-    for place in 0..width {
-        let bit = (value >> (width - 1 - place) & 1) as u8;
-        let at = at + place;
-        file[at / 8] = file[at / 8] & !(0x80 >> (at % 8)) | bit << (7 - at % 8);
-    }
 }
 
 /// The two jobs' file with one field changed, sealed anew.
@@ -233,11 +219,6 @@ const FIELDS: [(&str, usize, usize, u32); 30] = [
 
 /// Where the region words of two jobs start.
 const WORDS: usize = in_record(2, 0);
-
-/// The bit at which a field of record k + 1 starts.
-const fn in_record(k: usize, field: usize) -> usize {
-    64 + 96 * k + field
-}
 
 /// Files that reading turns away, for the calls that read a file.
 fn turned_away_files() -> Vec<(&'static str, Plate, Vec<u8>)> {

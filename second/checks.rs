@@ -61,7 +61,7 @@ pub fn numbers_wrong(table: &Table) -> bool {
 }
 
 /// The range of costs, periods, deadlines and region words.
-fn ticks_wrong(ticks: u32) -> bool {
+pub fn ticks_wrong(ticks: u32) -> bool {
     ticks < 1 || ticks > MOST_TICKS
 }
 

@@ -8,8 +8,8 @@ use crate::table::*;
 pub const HEAD_BYTES: usize = 8;
 pub const RECORD_BYTES: usize = 12;
 const SEAL_BYTES: usize = 2;
-const SHORTEST: usize = 22;
-const EDITION: u32 = 1;
+pub const SHORTEST: usize = 22;
+pub const EDITION: u32 = 1;
 
 /// 8 + 12n + (20m/8 rounded up) + 2.
 pub fn length(n: usize, m: usize) -> usize {
@@ -51,17 +51,17 @@ pub fn read_checked(
     Ok((table, own))
 }
 
-struct Head {
-    edition: u32,
+pub struct Head {
+    pub edition: u32,
     spare: u32,
-    cabinet: u32,
-    line: u32,
-    n: u8,
-    m: usize,
+    pub cabinet: u32,
+    pub line: u32,
+    pub n: u8,
+    pub m: usize,
 }
 
 /// Head, 64 bits: edition 4, spare 4, cabinet 24, line 16, n 8, m 8.
-fn take_head(file: &[u8]) -> Head {
+pub fn take_head(file: &[u8]) -> Head {
     let mut fields = Taker::new(file);
     Head {
         edition: fields.take(4),
@@ -73,14 +73,14 @@ fn take_head(file: &[u8]) -> Head {
     }
 }
 
-fn seal_wrong(file: &[u8]) -> bool {
+pub fn seal_wrong(file: &[u8]) -> bool {
     let (sealed, last) = file.split_at(file.len() - SEAL_BYTES);
     seal(sealed).to_be_bytes() != last
 }
 
 /// The table, the region words, and all spare and filler bits put together by `or`, so that the
 /// last is 0 exactly when every one of them is.
-fn take_all(file: &[u8], n: u8, m: usize) -> (Table, Vec<u32>, u32) {
+pub fn take_all(file: &[u8], n: u8, m: usize) -> (Table, Vec<u32>, u32) {
     let mut spare = take_head(file).spare;
     let mut fields = Taker::new(&file[HEAD_BYTES..]);
     let mut table = Table {

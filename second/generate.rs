@@ -1,43 +1,18 @@
 //! Streams of requests for the comparison at scale: every kind of the ask protocol, valid, at
-//! each limit and one past it, damaged in one bit and in many, cut at any length, with right and
-//! wrong seals. The same seed gives the same stream.
+//! each limit and one past it, with one fault and with several, damaged in one bit and in many,
+//! cut at any length, with right and wrong seals. The same seed gives the same stream. What a
+//! stream is to reach, and did reach, is counted in reach.rs.
 
-use crate::checks::Refusal;
+use crate::analysis::{active_period, Tasks};
+use crate::draw::*;
 use crate::file;
 use crate::random::Random;
-use crate::seal::seal;
+use crate::spoil::*;
 use crate::table::*;
 
-/// A cabinet as the writer would take it, but for what a later step makes wrong.
-pub struct Cabinet {
-    pub plate: Plate,
-    pub table: Table,
-    pub own: Vec<u32>,
-    pub catalogue: Vec<u32>,
-}
-
-/// Numbers at a limit of document 01, and one past it.
-const EDGES: [u32; 20] = [
-    0,
-    1,
-    2,
-    7,
-    8,
-    9,
-    15,
-    16,
-    63,
-    64,
-    100,
-    101,
-    127,
-    128,
-    255,
-    256,
-    999_999,
-    1_000_000,
-    1_000_001,
-    u32::MAX,
+/// The kinds as often as they are drawn: more often those that have more to reach.
+const KINDS: [u8; 28] = [
+    1, 1, 1, 2, 2, 3, 3, 4, 4, 5, 5, 5, 6, 6, 6, 7, 7, 8, 8, 9, 9, 9, 10, 10, 10, 11, 11, 11,
 ];
 
 /// How many single requests stand between two files that are cut at every length.
@@ -49,17 +24,14 @@ pub fn stream(seed: u64, count: u64, out: &mut impl FnMut(&[u8])) {
         if k % BETWEEN_CUTS == 0 {
             every_cut(random, out);
         }
-        let kind = random.from(1, 11) as u8;
+        let kind = random.one_of(&KINDS);
         let body = body(random, kind);
         put_request(kind, &body, out);
     }
 }
 
-/// A request whose body is too long for the protocol is left out.
 fn put_request(kind: u8, body: &[u8], out: &mut impl FnMut(&[u8])) {
-    if body.len() > LONGEST_BODY {
-        return;
-    }
+    assert!(body.len() <= LONGEST_BODY, "a body that no request holds");
     let mut request = vec![kind];
     request.extend((body.len() as u16).to_be_bytes());
     request.extend(body);
@@ -68,13 +40,8 @@ fn put_request(kind: u8, body: &[u8], out: &mut impl FnMut(&[u8])) {
 
 /// One file that reads, cut at every length, and one byte longer.
 fn every_cut(random: &mut Random, out: &mut impl FnMut(&[u8])) {
-    let (cabinet, mut file) = loop {
-        let cabinet = cabinet(random, MOST_TASKS as u32, 10);
-        let file = whole_file(&cabinet);
-        if !file.is_empty() {
-            break (cabinet, file);
-        }
-    };
+    let cabinet = any_cabinet(random);
+    let mut file = whole_file(&cabinet);
     file.push(0);
     for cut in 0..=file.len() {
         for kind in [1, 9] {
@@ -88,349 +55,283 @@ fn every_cut(random: &mut Random, out: &mut impl FnMut(&[u8])) {
     }
 }
 
-fn write(cabinet: &Cabinet, file: &mut [u8]) -> Result<usize, Refusal> {
-    file::write(
-        cabinet.plate,
-        &cabinet.table,
-        &cabinet.own,
-        &cabinet.catalogue,
-        file,
-    )
+/// The numbers by which reading turns away what stands on the listing's input: there is always
+/// room for the words.
+const READING: u64 = 11;
+
+/// Plate and file number k for the listing's program, five plate bytes first. Two in three are
+/// listed; the others are turned away, by each number in turn.
+pub fn input(random: &mut Random, k: u64) -> Vec<u8> {
+    if k % 3 == 2 {
+        return turned_away_input(random, 1 + (k / 3 % READING) as u8);
+    }
+    let cabinet = loop {
+        // A table of six has half a million rows, so few of them.
+        let some = random.one_of(&[1, 2, 3, 4, 4, 5, 5]);
+        let n = if random.once_in(25) { 6 } else { some };
+        let cabinet = cabinet(random, n, false);
+        if soon_tried(&cabinet.table) {
+            break cabinet;
+        }
+    };
+    plated(cabinet.plate, &whole_file(&cabinet))
 }
 
-/// Plate and file for the listing's program, five plate bytes first. Two in three files are whole.
-pub fn input(random: &mut Random) -> Vec<u8> {
-    let most = random.one_of(&[3, 4, 4, 5, 5, 6]);
-    let mut cabinet = cabinet(random, most, 0);
-    let file = if random.once_in(3) {
-        any_file(random, &mut cabinet)
-    } else {
-        whole_file(&cabinet)
-    };
-    let mut input = cabinet.plate.cabinet.to_be_bytes()[1..].to_vec();
-    input.extend(cabinet.plate.line.to_be_bytes());
-    input.extend(file);
-    if random.once_in(20) {
-        input.truncate(random.place(8));
+/// Whether a row of this table is soon tried: not many jobs stand in its longest busy stretch. All
+/// rows are listed, so a table of long rows would take minutes.
+fn soon_tried(table: &Table) -> bool {
+    let mut tasks = Tasks::of(table);
+    for k in 0..tasks.n {
+        tasks.priority[k] = k as u32 + 1;
     }
-    if random.once_in(20) {
-        input.extend(vec![0; random.place(700)]);
+    let stretch = active_period(&tasks, tasks.n - 1, 0).unwrap_or(MOST_TICKS as u64);
+    let jobs: u64 = tasks.period[..tasks.n].iter().map(|t| stretch / t).sum();
+    jobs < 300
+}
+
+/// An input that this number turns away: files are drawn until one is.
+fn turned_away_input(random: &mut Random, number: u8) -> Vec<u8> {
+    let (plate, mut file) = loop {
+        let n = random.from(1, MOST_TASKS as u32);
+        let mut cabinet = cabinet(random, n, false);
+        let file = any_file(random, &mut cabinet);
+        // No plate on the input is above 24 bits.
+        cabinet.plate.cabinet &= MOST_CABINET;
+        let read = file::read_checked(cabinet.plate, &[], &file);
+        if read.is_err_and(|refusal| refusal.number == number) {
+            break (cabinet.plate, file);
+        }
+    };
+    if number == 6 && random.once_in(2) {
+        file.resize(random.from(400, 700) as usize, 0);
+    }
+    let mut input = plated(plate, &file);
+    if number == 1 && random.once_in(2) {
+        input.truncate(random.place(8));
     }
     input
 }
 
+fn plated(plate: Plate, file: &[u8]) -> Vec<u8> {
+    let cabinet = plate.cabinet.to_be_bytes();
+    [&cabinet[1..], &plate.line.to_be_bytes(), file].concat()
+}
+
 fn body(random: &mut Random, kind: u8) -> Vec<u8> {
-    // A row is searched for, so few tasks there.
-    let most = if kind == 7 || kind == 8 { 4 } else { MOST_TASKS as u32 };
-    let mut cabinet = cabinet(random, most, 10);
-    let mut body = Vec::new();
     match kind {
-        1 | 9 => {
-            let file = any_file(random, &mut cabinet);
-            put_plate(&mut body, cabinet.plate);
-            let m = cabinet.own.len() as u32;
-            let room = random.one_of(&[0, m.saturating_sub(1), m, m + 1, 100, 120]);
-            let number = random.from(0, 10);
-            put_two(&mut body, if kind == 1 { room } else { number });
-            put_words(&mut body, &cabinet.catalogue);
-            put_bytes(&mut body, &file);
-        }
-        2 => {
-            spoil(random, &mut cabinet, true);
-            put_plate(&mut body, cabinet.plate);
-            let size = file::length((cabinet.table.n as usize).min(MOST_TASKS), cabinet.own.len()) as u32;
-            put_two(
-                &mut body,
-                random.one_of(&[0, size - 1, size, size, size, size + 3, 400]),
-            );
-            put_table(&mut body, &cabinet.table);
-            put_words(&mut body, &cabinet.own);
-            put_words(&mut body, &cabinet.catalogue);
-        }
-        3..=6 => {
-            spoil(random, &mut cabinet, kind == 6);
-            put_table(&mut body, &cabinet.table);
-            if kind == 6 {
-                put_words(&mut body, &cabinet.own);
-                put_words(&mut body, &cabinet.catalogue);
-            }
-        }
-        7 | 8 => {
-            if random.once_in(4) {
-                spoil(random, &mut cabinet, false);
-            }
-            cabinet.table.n = cabinet.table.n.min(4);
-            let n = cabinet.table.n as u32;
-            put_two(
-                &mut body,
-                random.one_of(&[
-                    0,
-                    (2 * n).saturating_sub(1),
-                    2 * n,
-                    2 * n,
-                    2 * n,
-                    2 * n + 1,
-                    20,
-                ]),
-            );
-            put_table(&mut body, &cabinet.table);
-            if kind == 8 {
-                let row = row(random, n as usize);
-                put_bytes(&mut body, &row);
-            }
-        }
-        10 => {
-            spoil(random, &mut cabinet, true);
-            put_two(&mut body, random.from(0, 9));
-            put_table(&mut body, &cabinet.table);
-            put_words(&mut body, &cabinet.own);
-            put_words(&mut body, &cabinet.catalogue);
-        }
-        _ => {
-            let number = random.one_of(&[
-                0, 1, 2, 3, 62, 63, 64, 65, 66, 67, 126, 127, 128, 129, 65535,
-            ]);
-            put_two(&mut body, number);
-            let cabinet_names = names(random);
-            put_bytes(&mut body, &cabinet_names);
-            let house_names = names(random);
-            put_bytes(&mut body, &house_names);
-        }
+        1 | 9 => of_a_file(random, kind),
+        2 => of_writing(random),
+        3..=6 => of_analysis(random, kind),
+        7 | 8 => of_rows(random, kind),
+        10 => of_regions(random),
+        _ => of_a_name(random),
+    }
+}
+
+/// A cabinet of any size, the largest more often than the others.
+fn any_cabinet(random: &mut Random) -> Cabinet {
+    let any = random.from(1, MOST_TASKS as u32);
+    let n = random.one_of(&[any, any, any, MOST_TASKS as u32]);
+    let mut cabinet = cabinet(random, n, true);
+    past_the_last(random, &mut cabinet.table);
+    cabinet
+}
+
+/// Reading, and a record out of a file.
+fn of_a_file(random: &mut Random, kind: u8) -> Vec<u8> {
+    let mut cabinet = any_cabinet(random);
+    let file = any_file(random, &mut cabinet);
+    let mut body = Vec::new();
+    put_plate(&mut body, cabinet.plate);
+    if kind == 1 {
+        put_two(&mut body, room(random, cabinet.own.len()));
+    } else {
+        put_two(&mut body, record_number(random, cabinet.table.n));
+    }
+    put_words(&mut body, &cabinet.catalogue);
+    put_bytes(&mut body, &file);
+    body
+}
+
+/// Just enough for an answer of this many elements (half the time), or less, or more.
+fn room(random: &mut Random, needed: usize) -> u32 {
+    let needed = needed as u32;
+    let less = needed.saturating_sub(1);
+    random.one_of(&[
+        0,
+        less,
+        less,
+        needed,
+        needed,
+        needed,
+        needed,
+        needed + 1,
+        needed + 9,
+        400,
+    ])
+}
+
+/// One of the records mostly, or none of them: also one whose low byte is a record's number.
+fn record_number(random: &mut Random, n: u8) -> u32 {
+    let n = n as u32;
+    let some = random.from(1, n.max(1));
+    random.one_of(&[some, some, some, n, 1, 0, n + 1, some + 256, 65_535])
+}
+
+fn of_writing(random: &mut Random) -> Vec<u8> {
+    let mut cabinet = any_cabinet(random);
+    spoil(random, &mut cabinet, &[0, 5, 9, 10, 11]);
+    if random.once_in(12) {
+        cabinet.plate.cabinet = random.one_of(&[MOST_CABINET, MOST_CABINET + 1, u32::MAX]);
+    }
+    let n = (cabinet.table.n as usize).min(MOST_TASKS);
+    let mut body = Vec::new();
+    put_plate(&mut body, cabinet.plate);
+    put_two(&mut body, room(random, file::length(n, cabinet.own.len())));
+    put_table(&mut body, &cabinet.table);
+    put_words(&mut body, &cabinet.own);
+    put_words(&mut body, &cabinet.catalogue);
+    body
+}
+
+/// Response times, tolerances, lengths and the region check.
+fn of_analysis(random: &mut Random, kind: u8) -> Vec<u8> {
+    let mut cabinet = any_cabinet(random);
+    let asked: &[u8] = match kind {
+        3 => &[0, 0, 5, 9, 10, 14],
+        6 => &[0, 0, 5, 9, 10, 11, 14, 15, 16],
+        _ => &[0, 0, 5, 9, 10, 14, 15, 16],
+    };
+    if kind == 6 && random.once_in(3) {
+        cut_to_lengths(random, &mut cabinet);
+    }
+    spoil(random, &mut cabinet, asked);
+    let mut body = Vec::new();
+    put_table(&mut body, &cabinet.table);
+    if kind == 6 {
+        put_words(&mut body, &cabinet.own);
+        put_words(&mut body, &cabinet.catalogue);
     }
     body
 }
 
-/// A cabinet that the writer takes: loads from light to more than full, deadlines around the
-/// periods, assigned or not.
-fn cabinet(random: &mut Random, most_tasks: u32, most_catalogue: u32) -> Cabinet {
-    let n = random.from(1, most_tasks) as usize;
-    let mut cabinet = Cabinet {
-        plate: Plate {
-            cabinet: random.one_of(&[0, 1, 70_001, MOST_CABINET]),
-            line: random.one_of(&[0, 1, 12, u16::MAX]),
-        },
-        table: Table {
-            n: n as u8,
-            ..Table::default()
-        },
-        own: Vec::new(),
-        catalogue: (0..random.from(0, most_catalogue))
-            .map(|_| random.from(1, 9))
-            .collect(),
+/// A row is searched for. Of few tasks all rows can be walked over, so any table will do; of many
+/// the search must end soon.
+fn of_rows(random: &mut Random, kind: u8) -> Vec<u8> {
+    let (table, row) = if random.once_in(2) {
+        rows_of_many(random)
+    } else {
+        rows_of_few(random)
     };
-    let longest = random.one_of(&[12, 40, 200, 2000, 1_000_000]);
-    let load = random.from(30, 110);
-    for k in 0..n {
-        let period = random.from(1, longest);
-        let cost = (period as u64 * load as u64 / 100 / n as u64).max(1) as u32 + random.from(0, 1);
-        cabinet.table.records[k] = Record {
-            cost: cost.min(MOST_TICKS),
-            period,
-            deadline: deadline(random, period),
-            name: random.from(0, MOST_NAME_NUMBER),
-            ..Record::default()
-        };
+    let n = (table.n as usize).min(MOST_TASKS);
+    let mut body = Vec::new();
+    put_two(&mut body, room(random, 2 * n));
+    put_table(&mut body, &table);
+    if kind == 8 {
+        put_bytes(&mut body, &spoilt_row(random, row));
     }
-    if !random.once_in(8) {
-        assign(random, &mut cabinet.table);
-    }
-    for k in 0..n {
-        give_regions(random, &mut cabinet, k);
-    }
-    cabinet
+    body
 }
 
-fn deadline(random: &mut Random, period: u32) -> u32 {
-    match random.from(0, 5) {
-        0 => random.from(1, period),
-        1 => (period + random.from(0, period)).min(MOST_TICKS),
-        _ => period,
+fn rows_of_few(random: &mut Random) -> (Table, Vec<u8>) {
+    let n = random.from(1, MANY_TASKS - 1);
+    let mut cabinet = cabinet(random, n, true);
+    past_the_last(random, &mut cabinet.table);
+    let row = any_row(random, cabinet.table.n as usize);
+    if random.once_in(2) {
+        spoil(random, &mut cabinet, &[0, 0, 5, 9, 10, 14]);
     }
+    (cabinet.table, row)
 }
 
-fn assign(random: &mut Random, table: &mut Table) {
-    let n = table.n as usize;
-    let mut order: Vec<usize> = (0..n).collect();
-    for k in (1..n).rev() {
-        order.swap(k, random.place(k + 1));
-    }
-    for (place, k) in order.into_iter().enumerate() {
-        let priority = place as u32 + 1;
-        table.records[k].priority = priority;
-        table.records[k].threshold = if random.once_in(2) {
-            priority
-        } else {
-            random.from(1, priority)
-        };
-    }
-}
-
-/// Regions of one record: words of its own, or a run of the catalogue whose sum becomes its cost.
-fn give_regions(random: &mut Random, cabinet: &mut Cabinet, k: usize) {
-    let length = cabinet.catalogue.len();
-    let record = &mut cabinet.table.records[k];
-    if length > 0 && random.once_in(3) {
-        let first = random.place(length);
-        let count = 1 + random.place(length - first);
-        record.source = Source::Catalogue;
-        record.first = first as u32;
-        record.count = count as u32;
-        record.cost = cabinet.catalogue[first..first + count].iter().sum();
-        return;
-    }
-    let parts = random.from(1, record.cost.min(4));
-    record.first = cabinet.own.len() as u32;
-    record.count = parts;
-    let mut left = record.cost;
-    for part in (1..parts).rev() {
-        let word = random.from(1, left - part);
-        cabinet.own.push(word);
-        left -= word;
-    }
-    cabinet.own.push(left);
-}
-
-/// Leaves the cabinet as it is, or makes something of it wrong.
-fn spoil(random: &mut Random, cabinet: &mut Cabinet, with_regions: bool) {
-    while random.once_in(2) {
-        let n = cabinet.table.n;
-        let k = random.place(MOST_TASKS);
-        let edge = random.one_of(&EDGES);
-        let record = &mut cabinet.table.records[k];
-        match random.from(0, if with_regions { 14 } else { 9 }) {
-            0 => record.cost = edge,
-            1 => record.period = edge,
-            2 => record.deadline = edge,
-            3 => record.priority = random.one_of(&[0, 1, 2, n as u32, n as u32 + 1, edge]),
-            4 => {
-                record.threshold =
-                    random.one_of(&[0, 1, record.priority, record.priority.wrapping_add(1), edge])
-            }
-            5 => record.name = edge,
-            6 => cabinet.table.n = random.one_of(&[0, 1, n, MOST_TASKS as u8, MOST_TASKS as u8 + 1, 255]),
-            7 => {
-                cabinet.plate.cabinet =
-                    random.one_of(&[0, MOST_CABINET, MOST_CABINET + 1, u32::MAX])
-            }
-            8 => record.deadline = record.cost,
-            9 => record.deadline = record.period,
-            10 => record.first = edge,
-            11 => record.count = edge,
-            12 => record.source = random.one_of(&[Source::Own, Source::Catalogue]),
-            13 => cabinet.own.resize(random.one_of(&[0, 99, 100, 101]), 1),
-            _ => {
-                let list = if random.once_in(2) {
-                    &mut cabinet.own
-                } else {
-                    &mut cabinet.catalogue
-                };
-                if !list.is_empty() {
-                    let place = random.place(list.len());
-                    list[place] = edge;
-                }
-            }
-        }
-    }
-}
-
-/// The cabinet's file; no bytes where the writer turns it away.
-fn whole_file(cabinet: &Cabinet) -> Vec<u8> {
-    let mut file = vec![0; file::length(MOST_TASKS, MOST_REGION_WORDS)];
-    let length = write(cabinet, &mut file).unwrap_or(0);
-    file.truncate(length);
-    file
-}
-
-/// The cabinet's file, whole, or wrong in one of many ways; the plate may be another's.
-fn any_file(random: &mut Random, cabinet: &mut Cabinet) -> Vec<u8> {
-    if random.once_in(12) {
-        cabinet.own.resize(random.one_of(&[99, 100]), 1);
-    }
-    let mut file = whole_file(cabinet);
-    let length = file.len();
-    if length == 0 {
-        return (0..random.from(0, 60))
-            .map(|_| random.from(0, 255) as u8)
-            .collect();
-    }
-    match random.from(0, 9) {
-        0 => cabinet.plate.line ^= 1 << random.from(0, 15),
-        1 => cabinet.plate.cabinet ^= 1 << random.from(0, 24),
-        2 => flip(random, &mut file, 1),
-        3 => {
-            let bits = random.from(2, 40);
-            flip(random, &mut file, bits);
-        }
-        4 => file.truncate(random.place(length + 1)),
-        5 => file.extend(vec![0; random.from(1, 5) as usize]),
-        6 | 7 => {
-            flip(random, &mut file, 1);
-            seal_again(&mut file);
-        }
+/// What is spoilt here is either asked before the search or ignored by it, so the row stays near.
+fn rows_of_many(random: &mut Random) -> (Table, Vec<u8>) {
+    let mut table = near_table(random);
+    let row = near_row(random, &table);
+    past_the_last(random, &mut table);
+    let k = random.place(table.n as usize);
+    match random.from(0, 7) {
+        0 => table.n = random.one_of(&[0, 9, 255]),
+        1 => wrong_number(random, &mut table.records[k]),
+        2 => wrong_place(random, &mut table, k),
         _ => {}
     }
-    if random.once_in(10) {
-        cabinet.plate.line ^= 1;
-    }
-    file
+    (table, row)
 }
 
-fn flip(random: &mut Random, file: &mut [u8], bits: u32) {
-    for _ in 0..bits {
-        let place = random.place(file.len() * 8);
-        file[place / 8] ^= 0x80 >> (place % 8);
-    }
-}
-
-pub fn seal_again(file: &mut [u8]) {
-    let end = file.len() - 2;
-    let sealed = seal(&file[..end]).to_be_bytes();
-    file[end..].copy_from_slice(&sealed);
-}
-
-/// A well-formed row, or one that a number makes wrong, or one of another length.
-fn row(random: &mut Random, n: usize) -> Vec<u8> {
-    let n = n.max(1);
-    let mut table = Table {
-        n: n as u8,
-        ..Table::default()
-    };
-    assign(random, &mut table);
-    let mut row = vec![0; 2 * n];
-    for k in 0..n {
-        row[table.records[k].priority as usize - 1] = k as u8 + 1;
-        row[n + k] = table.records[k].threshold as u8;
-    }
-    match random.from(0, 7) {
-        0 => {
-            let place = random.place(row.len());
-            row[place] = random.one_of(&[0, 1, n as u8, n as u8 + 1, 255]);
-        }
-        1 => row.truncate(random.place(row.len())),
-        2 => row.push(1),
+/// The row, mostly, or one that a number makes wrong, or one of another length.
+fn spoilt_row(random: &mut Random, mut row: Vec<u8>) -> Vec<u8> {
+    let n = row.len() / 2;
+    let place = random.place(n);
+    match random.from(0, 12) {
+        0 => row[place] = random.one_of(&[0, 1, n as u8, n as u8 + 1, 255]),
+        1 | 5 => row[n + place] = random.one_of(&[0, n as u8, n as u8, n as u8 + 1, 255]),
+        2 => row.truncate(random.place(row.len())),
+        3 => row.truncate(row.len() - 1),
+        4 => row.push(1),
         _ => {}
     }
     row
 }
 
-/// A name list: some entries, the last one perhaps cut short.
-fn names(random: &mut Random) -> Vec<u8> {
-    let mut list = Vec::new();
-    for _ in 0..random.one_of(&[0, 1, 2, 3, 4, 63, 64]) {
-        let used = random.from(0, 16) as usize;
-        let mut entry = [b' '; 16];
-        for byte in &mut entry[..used] {
-            *byte = if random.once_in(4) {
-                b' '
-            } else {
-                random.from(33, 126) as u8
-            };
-        }
-        list.extend(entry);
+fn of_regions(random: &mut Random) -> Vec<u8> {
+    let mut cabinet = any_cabinet(random);
+    spoil(random, &mut cabinet, &[0, 5, 9, 11, 11, 11]);
+    // A record past n whose regions hold is no record all the same.
+    if cabinet.table.n > 1 && random.once_in(6) {
+        cabinet.table.n -= 1;
     }
-    if random.once_in(3) {
-        list.truncate(list.len().saturating_sub(random.from(1, 15) as usize));
+    let mut body = Vec::new();
+    put_two(&mut body, record_number(random, cabinet.table.n));
+    put_table(&mut body, &cabinet.table);
+    put_words(&mut body, &cabinet.own);
+    put_words(&mut body, &cabinet.catalogue);
+    body
+}
+
+fn of_a_name(random: &mut Random) -> Vec<u8> {
+    let entries = [0; 2].map(|_| random.one_of(&[0, 1, 2, 3, 4, 5, 63, 64, 64]));
+    let lists = entries.map(|entries| names_perhaps_cut(random, entries));
+    let which = random.place(2);
+    let mut body = Vec::new();
+    put_two(&mut body, name_number(random, which, entries[which]));
+    put_bytes(&mut body, &lists[0]);
+    put_bytes(&mut body, &lists[1]);
+    body
+}
+
+/// The number of an entry in one of the lists, at the list's ends mostly, or above all names.
+fn name_number(random: &mut Random, which: usize, entries: usize) -> u32 {
+    let entries = entries as u32;
+    let some = random.from(0, 63);
+    let inside = random.from(0, entries.max(1) - 1);
+    let last = entries.max(1) - 1;
+    let entry = random.one_of(&[
+        0,
+        inside,
+        inside,
+        inside,
+        last,
+        last,
+        entries,
+        entries + 1,
+        some,
+    ]);
+    match random.from(0, 11) {
+        0 => random.one_of(&[128, 128, 129, 255, 256, 65_535]),
+        _ => 64 * which as u32 + entry,
     }
+}
+
+/// A name list whose last entry may be cut short, also by a single byte.
+fn names_perhaps_cut(random: &mut Random, entries: usize) -> Vec<u8> {
+    let mut list = names(random, entries);
+    let cut = match random.from(0, 5) {
+        0 => 1,
+        1 => random.from(1, 15) as usize,
+        _ => 0,
+    };
+    list.truncate(list.len().saturating_sub(cut));
     list
 }
 

@@ -26,7 +26,7 @@ impl Row {
     }
 
     /// These numbers as a row, or nothing unless they are 2n and a well-formed assignment.
-    fn from_numbers(n: usize, numbers: &[u8]) -> Option<Row> {
+    pub fn from_numbers(n: usize, numbers: &[u8]) -> Option<Row> {
         if numbers.len() != 2 * n {
             return None;
         }

@@ -9,6 +9,7 @@
 //! - `plate`: the same description; writes the five plate bytes;
 //! - `catalogue`: the same description; prints the catalogue it names, one number a line;
 //! - `generate SEED COUNT`: writes that many requests for `ask` (see generate.rs);
+//! - `reach STREAM ANSWERS`: counts what such a stream reached, from two files (see reach.rs);
 //! - `inputs SEED COUNT FOLDER`: writes that many inputs for `list`, a file each;
 //! - `cases`: writes the stored stream of requests for `ask` (see cases.rs);
 //! - `refusals`: prints which line of that stream reaches which refusal;
@@ -19,26 +20,33 @@ mod ask;
 mod bits;
 mod cases;
 mod checks;
+mod draw;
 mod file;
 mod generate;
 mod lengths;
 mod list;
 mod listing;
 mod make;
+mod notes;
 mod parts;
 mod random;
+mod reach;
 mod seal;
+mod spoil;
 mod table;
 #[cfg(test)]
 mod tests;
 
-use std::io::{self, BufWriter, Read, Write};
+use std::fs::File;
+use std::io::{self, BufReader, BufWriter, Read, Write};
 use std::process::ExitCode;
 
-/// What stops the program: a wrong command or description (status 2), or a broken pipe, say
-/// (status 1). A refusal of the paper is an answer and does not stop it.
+/// What stops the program: a wrong command or description (status 2), or a stream that falls
+/// short of what it is to reach, or a broken pipe, say (status 1). A refusal of the paper is an
+/// answer and does not stop it.
 pub enum Stop {
     Wrong(String),
+    Short(String),
     Broken(io::Error),
 }
 
@@ -55,6 +63,10 @@ fn main() -> ExitCode {
             eprintln!("second: {message}");
             ExitCode::from(2)
         }
+        Err(Stop::Short(message)) => {
+            eprintln!("{message}");
+            ExitCode::from(1)
+        }
         Err(Stop::Broken(error)) => {
             eprintln!("second: {error}");
             ExitCode::from(1)
@@ -69,6 +81,7 @@ fn run() -> Result<(), Stop> {
     };
     match (command.as_str(), rest) {
         ("generate", [seed, count]) => return generate(number(seed)?, number(count)?),
+        ("reach", [stream, answers]) => return reach(stream, answers),
         ("small", [folder]) => return Ok(cases::small(folder)?),
         ("inputs", [seed, count, folder]) => return inputs(number(seed)?, number(count)?, folder),
         (_, []) => {}
@@ -92,7 +105,7 @@ fn run() -> Result<(), Stop> {
 
 fn usage() -> Stop {
     Stop::Wrong(
-        "give one of: ask list make plate catalogue generate inputs cases refusals small"
+        "give one of: ask list make plate catalogue generate reach inputs cases refusals small"
             .to_string(),
     )
 }
@@ -114,10 +127,16 @@ fn generate(seed: u64, count: u64) -> Result<(), Stop> {
     broken.map_or(Ok(()), |error| Err(Stop::Broken(error)))
 }
 
+fn reach(stream: &str, answers: &str) -> Result<(), Stop> {
+    let requests = BufReader::new(File::open(stream)?);
+    let answers = BufReader::new(File::open(answers)?);
+    reach::run(requests, answers, &mut io::stdout().lock())
+}
+
 fn inputs(seed: u64, count: u64, folder: &str) -> Result<(), Stop> {
     let random = &mut random::Random::new(seed);
     for k in 0..count {
-        std::fs::write(format!("{folder}/{k}"), generate::input(random))?;
+        std::fs::write(format!("{folder}/{k}"), generate::input(random, k))?;
     }
     Ok(())
 }

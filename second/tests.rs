@@ -6,6 +6,7 @@ mod brute;
 mod files;
 mod list;
 mod making;
+mod reach;
 mod refusals;
 mod samples;
 

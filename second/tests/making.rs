@@ -20,6 +20,7 @@ fn made(text: &str) -> Option<Vec<u8>> {
     match make::file(text) {
         Ok(file) => Some(file),
         Err(Stop::Wrong(_)) => None,
+        Err(Stop::Short(message)) => panic!("{message}"),
         Err(Stop::Broken(error)) => panic!("{error}"),
     }
 }

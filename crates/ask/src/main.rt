@@ -1,5 +1,6 @@
 // Answers a stream of requests from standard input (docs/ASK.md): the calls of the core, and on one line each answer with
-// the whole of the memory that was lent.
+// the whole of the memory that was lent. Where standard input can't be read or standard output can't be written, it says so on
+// standard error and stops.
 ghost use Prim.Native.Nat.{_≤_};
 ghost use lib.ListN.{length};
 use request::LONGEST_BODY;
@@ -11,6 +12,12 @@ const MOST_REQUESTS: u64 = 18446744073709551615;
 fn bad(buf: &mut [u8]) -> bool {
     let end = say::word(buf, 0, b"bad request\n");
     text::flush(buf, end);
+    false
+}
+
+// Standard input can't be read: said on standard error, after which the program ends.
+fn unread() -> bool {
+    os::fail(b"standard input");
     false
 }
 
@@ -35,8 +42,11 @@ fn answer(buf: &mut [u8], kind: u8, body: &[u8], words: &mut [u32], bytes: &mut 
 
 // Reads a body of the length that is lent, and answers the request. Says whether to go on.
 fn respond(buf: &mut [u8], kind: u8, body: &mut [u8], words: &mut [u32], bytes: &mut [u8]) -> bool {
-    let got = io::read_full(libc::STDIN_FILENO, body);
-    if got < body.len() {
+    let got = intake::read_whole(libc::STDIN_FILENO, body);
+    if got.failed {
+        return unread();
+    }
+    if got.bytes < body.len() {
         return bad(buf);
     }
     if !request::is_whole(kind, body) {
@@ -44,17 +54,20 @@ fn respond(buf: &mut [u8], kind: u8, body: &mut [u8], words: &mut [u32], bytes: 
     }
     let said = answer(buf, kind, body, words, bytes);
     let end = say::newline(buf, said);
-    text::flush(buf, end);
-    true
+    let start = text::flush(buf, end);
+    !text::lost(buf, start)
 }
 
 fn respond_next(buf: &mut [u8], words: &mut [u32], bytes: &mut [u8]) -> bool {
     let mut head = [0u8; 3];
-    let got = io::read_full(libc::STDIN_FILENO, &mut head);
-    if got == 0 {
+    let got = intake::read_whole(libc::STDIN_FILENO, &mut head);
+    if got.failed {
+        return unread();
+    }
+    if got.bytes == 0 {
         return false;
     }
-    if got < 3 {
+    if got.bytes < 3 {
         return bad(buf);
     }
     let length = request::two_at(&head, 1);

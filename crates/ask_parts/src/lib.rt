@@ -1,7 +1,10 @@
 // Kinds 9 to 11: the parts handed back.
 ghost use Prim.Native.Nat.{_≤_};
 ghost use lib.ListN.{length};
+use paper::Cabinet;
+use paper::Line;
 use paper::Outcome;
+use paper::Table;
 use request::MOST_BODY_WORDS;
 use request::TABLE_BYTES;
 
@@ -18,7 +21,7 @@ fn put_bytes(buf: &mut [u8], outcome: Outcome, name: &[u8], part: &[u8]) -> usiz
     }
 }
 
-fn put_words(buf: &mut [u8], outcome: Outcome, part: &[u32]) -> usize
+fn put_regions(buf: &mut [u8], outcome: Outcome, part: &[u32]) -> usize
     ensures { λ r. ⌜ r ≤ length (now (buf .entry)) ⌝ }
 {
     match outcome {
@@ -30,6 +33,53 @@ fn put_words(buf: &mut [u8], outcome: Outcome, part: &[u32]) -> usize
     }
 }
 
+fn put_record(buf: &mut [u8], outcome: Outcome, part: &[u8]) -> usize
+    ensures { λ r. ⌜ r ≤ length (now (buf .entry)) ⌝ }
+{
+    put_bytes(buf, outcome, b"record", part)
+}
+
+fn put_name(buf: &mut [u8], outcome: Outcome, part: &[u8]) -> usize
+    ensures { λ r. ⌜ r ≤ length (now (buf .entry)) ⌝ }
+{
+    put_bytes(buf, outcome, b"name", part)
+}
+
+// Each calls a joined call and takes apart what it hands back. No covered form does that, so these three are walked by hand.
+fn say_record<'a>(
+    buf: &mut [u8],
+    file: &'a [u8],
+    cabinet: Cabinet,
+    line: Line,
+    catalogue: &[u32],
+    number: usize,
+) -> usize
+    ensures { λ r. ⌜ r ≤ length (now (buf .entry)) ⌝ }
+{
+    let part = parts::record(file, cabinet, line, catalogue, number);
+    put_record(buf, part.outcome, part.bytes)
+}
+
+fn say_regions<'a>(
+    buf: &mut [u8],
+    t: Table,
+    own: &'a [u32],
+    catalogue: &'a [u32],
+    number: usize,
+) -> usize
+    ensures { λ r. ⌜ r ≤ length (now (buf .entry)) ⌝ }
+{
+    let part = parts::regions(t, own, catalogue, number);
+    put_regions(buf, part.outcome, part.words)
+}
+
+fn say_name<'a>(buf: &mut [u8], number: u32, cabinet: &'a [u8], house: &'a [u8]) -> usize
+    ensures { λ r. ⌜ r ≤ length (now (buf .entry)) ⌝ }
+{
+    let part = parts::name(number, cabinet, house);
+    put_name(buf, part.outcome, part.bytes)
+}
+
 pub fn record(buf: &mut [u8], body: &[u8]) -> usize
     ensures { λ r. ⌜ r ≤ length (now (buf .entry)) ⌝ }
 {
@@ -39,9 +89,7 @@ pub fn record(buf: &mut [u8], body: &[u8]) -> usize
     let file = request::bytes_at(body, request::words_end(body, 8));
     let mut catalogue = [0u32; MOST_BODY_WORDS];
     let m = request::take_words(body, 8, &mut catalogue);
-    let outcome = parts::record_outcome(file, cabinet, line, &catalogue[..m], number);
-    let part = parts::record_bytes(file, cabinet, line, &catalogue[..m], number);
-    put_bytes(buf, outcome, b"record", part)
+    say_record(buf, file, cabinet, line, &catalogue[..m], number)
 }
 
 const OWN: usize = 2 + TABLE_BYTES;
@@ -55,9 +103,7 @@ pub fn regions(buf: &mut [u8], body: &[u8]) -> usize
     let m = request::take_words(body, OWN, &mut own);
     let mut catalogue = [0u32; MOST_BODY_WORDS];
     let k = request::take_words(body, request::words_end(body, OWN), &mut catalogue);
-    let outcome = parts::regions_outcome(t, &own[..m], &catalogue[..k], number);
-    let part = parts::regions_words(t, &own[..m], &catalogue[..k], number);
-    put_words(buf, outcome, part)
+    say_regions(buf, t, &own[..m], &catalogue[..k], number)
 }
 
 pub fn name(buf: &mut [u8], body: &[u8]) -> usize
@@ -66,7 +112,5 @@ pub fn name(buf: &mut [u8], body: &[u8]) -> usize
     let number = request::two_at(body, 0) as u32;
     let cabinet = request::bytes_at(body, 2);
     let house = request::bytes_at(body, request::bytes_end(body, 2));
-    let outcome = parts::name_outcome(number, cabinet, house);
-    let part = parts::name_bytes(number, cabinet, house);
-    put_bytes(buf, outcome, b"name", part)
+    say_name(buf, number, cabinet, house)
 }

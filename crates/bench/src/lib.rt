@@ -1,15 +1,17 @@
-// The calls that the benchmark measures, for a program in another language to link. A table comes as a request has it.
-// Only the benchmark links this crate: `bench_passes` has a `requires`, which nothing checks on the other side. No call
-// takes more than the six numbers that pass in registers; the plate is a fixed one where there is no place for it.
+// The calls, for the programs in other languages that measure their time and their stack. A table comes as a request has it; a
+// slice is two parameters there, its start and its length. Where a call is turned away, the answer is the refusal's number.
+// Only those programs link this crate: `bench_passes` has a `requires`, which nothing checks on the other side.
 ghost use Prim.Native.Nat.{_≤_};
 ghost use Rattle.paper.specs.Numbers.{horizon};
 ghost use Rattle.columns.specs.Columns.{Fair};
 use paper::Cabinet;
+use paper::FitAnswer;
 use paper::HORIZON;
 use paper::Line;
 use paper::MOST_TASKS;
 use paper::Outcome;
 use paper::Response;
+use paper::RowAnswer;
 use paper::Time;
 use paper::WriteAnswer;
 
@@ -76,6 +78,65 @@ pub extern "C" fn bench_tolerances(table: &[u8]) -> i64 {
     let answer = lengths::tolerances(t);
     let ticks = answer.ticks;
     ticks[MOST_TASKS - 1]
+}
+
+#[no_mangle]
+pub extern "C" fn bench_lengths(table: &[u8]) -> u64 {
+    let t = request::table_at(table, 0);
+    let answer = lengths::lengths(t);
+    let outcome = answer.outcome;
+    number(outcome)
+}
+
+#[no_mangle]
+pub extern "C" fn bench_fit(table: &[u8], own: &[u32]) -> u64 {
+    let t = request::table_at(table, 0);
+    let catalogue: [u32; 0] = [];
+    match lengths::region_check(t, own, &catalogue) {
+        FitAnswer::Refused(r) => numbers::number_of(r),
+        _ => 0,
+    }
+}
+
+fn number_of_row(answer: RowAnswer) -> u64 {
+    match answer {
+        RowAnswer::Refused(r) => numbers::number_of(r),
+        _ => 0,
+    }
+}
+
+#[no_mangle]
+pub extern "C" fn bench_first(table: &[u8], out: &mut [u8]) -> u64 {
+    let t = request::table_at(table, 0);
+    number_of_row(listing::first_row(t, out))
+}
+
+#[no_mangle]
+pub extern "C" fn bench_next(table: &[u8], given: &[u8], out: &mut [u8]) -> u64 {
+    let t = request::table_at(table, 0);
+    number_of_row(listing::next_row(t, given, out))
+}
+
+// The parts: how many bytes or words there are, none where the call is turned away.
+#[no_mangle]
+pub extern "C" fn bench_record(file: &[u8], cabinet: u32, line: u16, record: usize) -> usize {
+    let catalogue: [u32; 0] = [];
+    let part = parts::record_bytes(file, Cabinet(cabinet), Line(line), &catalogue, record);
+    part.len()
+}
+
+#[no_mangle]
+pub extern "C" fn bench_regions(table: &[u8], own: &[u32], record: usize) -> usize {
+    let t = request::table_at(table, 0);
+    let catalogue: [u32; 0] = [];
+    let part = parts::regions_words(t, own, &catalogue, record);
+    part.len()
+}
+
+#[no_mangle]
+pub extern "C" fn bench_name(name: u32, list: &[u8]) -> usize {
+    let part = parts::name_bytes(name, list, list);
+    part.len()
 }
 
 #[no_mangle]

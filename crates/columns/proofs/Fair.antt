@@ -9,10 +9,11 @@ use native.Mathlib.Decide.{decLt}
 use borrow.Author.Tests.{leb-true}
 use lib.Dec.{leb}
 use lib.ListN.{length, getD, List·getD-eq-default}
-use Rattle.paper.specs.Numbers.{mostTasks, mostTicks, mostName, zeroRecord, rec, ticksInRange, recordInRange, recordsInRange, eachOnce, Assignment, thresholdsHold, assigned, unassigned, assignmentHolds}
+use Rattle.paper.specs.Numbers.{mostTasks, mostTicks, mostName, zeroRecord, rec, ticksInRange, recordInRange, recordsInRange, eachOnce, thresholdsHold, assigned, unassigned, assignmentHolds}
 use Rattle.paper.specs.Analysis.{tasksOf}
 use Rattle.paper.specs.declared.Record.{Record}
 use Rattle.paper.proofs.Tests.{never, both, within, every-says}
+use Rattle.paper.proofs.Formed.{each-once-range, threshold-range}
 use Rattle.laws.proofs.Lists.{list-length, list-at}
 use Rattle.columns.specs.Columns.{valueIn, columnOf, tasksBy, assignedBy, Between, Fair}
 use Rattle.columns.specs.declared.Column.{Column}
@@ -57,15 +58,6 @@ tasks-by rs n e i = record {
 pub assigned-by : (rs : List Record) → length rs ≡ mostTasks
     → assignedBy (columnOf rs Priority) (columnOf rs Threshold) ≡ assigned rs
 assigned-by rs e i = record { p = λ j. column-all rs Priority e j i; h = λ j. column-all rs Threshold e j i }
-
--- `eachOnce` and `thresholdsHold` say of each k
-pub each-once-range : (n : ℕ) (f : ℕ → ℕ) → eachOnce n f ≡ true → (k : ℕ) → k < n → (1 ≤ f k) × (f k ≤ n)
-unfolding eachOnce
-each-once-range n f e k h = within 1 n (f k) (every-says n _ (both _ _ e .0) k h)
-
-pub threshold-range : (n : ℕ) (a : Assignment) → thresholdsHold n a ≡ true → (k : ℕ) → k < n → (1 ≤ a .h k) × (a .h k ≤ a .p k)
-unfolding thresholdsHold
-threshold-range n a e k h = within 1 (a .p k) (a .h k) (every-says n _ e k h)
 
 -- an assignment that holds and is there is well formed
 other : (a b : Bool) → (a || b) ≡ true → a ≡ false → b ≡ true

@@ -189,7 +189,7 @@ fn regions_fit(list: &[u32], first: usize, count: usize, q: i64) -> bool
     ok
 }
 
-fn record_fits(r: Record, own: &[u32], catalogue: &[u32], q: i64) -> bool
+pub fn record_fits(r: Record, own: &[u32], catalogue: &[u32], q: i64) -> bool
     ensures { λ b. ⌜ b ≡ regionsFit (listOf (r .source) (now (own .entry)) (now (catalogue .entry))) r q ⌝ }
 {
     let source = r.source;

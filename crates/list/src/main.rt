@@ -1,5 +1,8 @@
 // Lists every passing assignment of a cabinet file. From standard input: five plate bytes (cabinet 24, line 16), then the
-// file. Its regions stand in the file: the catalogue is empty.
+// file. Document 01 gives this program an empty catalogue, so a file with regions of a catalogue is refused with 11.
+//
+// Where standard input can't be read or standard output can't be written, it says so on standard error and stops: a list that
+// lost rows has no last line with a total.
 ghost use Prim.Native.Nat.{_≤_};
 ghost use lib.ListN.{length};
 use paper::MOST_TASKS;
@@ -74,7 +77,8 @@ fn put_rows(buf: &mut [u8], at: usize, t: Table, row: &mut [u8]) -> usize
     while rows < MOST_ROWS && found {
         end = put_row(buf, end, row);
         rows += 1;
-        found = step(t, row);
+        // No search for a row that could not be shown any more.
+        found = !text::lost(buf, end) && step(t, row);
     }
     put_end(buf, end, rows)
 }
@@ -118,7 +122,12 @@ fn put_list(buf: &mut [u8], input: &[u8]) -> usize
 
 fn main() {
     let mut input = [0u8; PLATE_AND_FILE];
-    let n = io::read_full(libc::STDIN_FILENO, &mut input);
+    let got = intake::read_whole(libc::STDIN_FILENO, &mut input);
+    if got.failed {
+        os::fail(b"standard input");
+        return;
+    }
+    let n = got.bytes;
     let mut buf = io::large_buffer();
     let end = put_list(&mut buf, &input[..n]);
     text::flush(&buf, end);

@@ -27,7 +27,8 @@ use Rattle.columns.specs.declared.Column.the-variants.{Cost, Period, Deadline}
 use Rattle.columns.proofs.Fair.{tasks-by, costs-between, periods-between, deadlines-between}
 use Rattle.checks.proofs.Asks.{first-passed, first-refused}
 use Rattle.checks.proofs.Meaning.{some, few, first-row-done}
-use Rattle.rows.proofs.Places.{formed, formed-within}
+use Rattle.paper.proofs.Formed.{formed}
+use Rattle.rows.proofs.Places.{formed-within}
 use Rattle.listing.specs.Search.{Accepted, Ranged, Begun, FirstFrom, NoneFrom, Finds, ListsFrom}
 use Rattle.listing.proofs.Moves.{passing-size, passing-within}
 
@@ -124,9 +125,9 @@ says-refused : {o : Outcome} (y : Tasks) (given out : List ℕ) (r : Refusal) �
 unfolding Says
 says-refused y given out r e = subst (λ (o : Outcome). Says o y given out out (Row.Refused r)) (sym e) (refl, refl)
 
--- The first row: the search starts at the digit 1.
-pub first-begun : {t : Table} {room : ℕ} → Accepted t room → Begun (t .n) (replicate (rowSize mostTasks) 1) 0
-first-begun {t} ok =
+-- The first row: the search starts at the digit 1. A start at 2 would be a candidate too: that no row is skipped is said by the answer.
+pub first-begun : {t : Table} {room x : ℕ} → Accepted t room → 1 ≤ x → x ≤ 2 → Begun (t .n) (replicate (rowSize mostTasks) x) 0
+first-begun {t} ok above below =
     let l = some-tasks ok in
     record { few = few-tasks ok; inside = omega arith; size = refl; head = within-none (t .n); low = omega arith; high = omega arith }
 

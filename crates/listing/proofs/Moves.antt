@@ -11,7 +11,8 @@ use Rattle.paper.specs.Analysis.{Tasks}
 use Rattle.paper.specs.Rows.{rowSize, Later, Passing}
 use Rattle.laws.specs.Order.{From, Within}
 use Rattle.laws.proofs.Order.{number, number-fits, number-later, within-more, within-last, from-self, from-later, from-not-later, from-bump, from-on, from-front, from-over, later-bump, later-on, later-back}
-use Rattle.rows.proofs.Places.{formed, formed-within}
+use Rattle.paper.proofs.Formed.{formed}
+use Rattle.rows.proofs.Places.{formed-within}
 use Rattle.listing.specs.Search.{Begun, Barren, Tests, FirstFrom, NoneFrom}
 
 -- what is left to search: no candidate has a number of 32 ^ 2n or more

@@ -10,12 +10,12 @@ use Rattle.paper.specs.Numbers.{mostTasks, perTask, eachOnce, thresholdsHold}
 use Rattle.paper.specs.Analysis.{Tasks, passes}
 use Rattle.paper.specs.Rows.{rowSize, placeOf, rowAssignment, rowHolds}
 use Rattle.paper.proofs.Tests.{never}
+use Rattle.paper.proofs.Formed.{threshold-range, place-most, formed}
 use Rattle.laws.proofs.Lists.{per-task-at, per-task-length}
 use Rattle.laws.proofs.Agree.{SameTasks, passes-agree}
 use Rattle.columns.specs.Columns.{tasksBy, assignedBy, Fair}
-use Rattle.columns.proofs.Fair.{threshold-range}
 use Rattle.rows.specs.Places.{fitsAt}
-use Rattle.rows.proofs.Places.{formed, formed-fits, fits-alike, place-most, place-least}
+use Rattle.rows.proofs.Places.{formed-fits, fits-alike, place-least}
 use Rattle.rows.proofs.Columns.{same-assignment, row-tests}
 use Rattle.listing.specs.Search.{Ranged, Barren, Tests}
 

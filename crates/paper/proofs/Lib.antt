@@ -7,7 +7,10 @@ pub mod Responses
 pub mod Lengths
 pub mod Reading
 pub mod Rows
+pub mod Formed
 pub mod Listing
+pub mod Exhausted
+pub mod Ending
 pub mod Signed
 pub mod Extremes
 pub mod Writing

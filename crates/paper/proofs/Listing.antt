@@ -1,24 +1,24 @@
--- What a caller gets who asks for the first row, and again after each row, until the end: every passing row, in order, each once.
-use Prim.Native.Nat.{ℕ, zero, suc, _*_, _<_, _≤_, zero-le, suc-le-suc}
+-- What a caller gets who asks for the first row, or from a row, and again after each row that comes, until the end: every passing row from there on, in order, each once.
+use Prim.Native.Nat.{ℕ, zero, suc, _<_, _≤_, zero-le, suc-le-suc}
 use native.Mathlib.Nat.{not-suc-le-zero, le-of-suc-le-suc}
 use native.Mathlib.Omega.{arith}
 use mathlib.Core.Path.{_≡_, refl, sym, subst}
-use mathlib.Core.Bool.{Bool, true, false, not, cond, and-eq-true-iff}
+use mathlib.Core.Bool.{true}
 use mathlib.Core.List.{List, [], _∷_}
 use mathlib.Core.Logic.{⊎-elim}
-use lib.Dec.{leb, eqb}
 use lib.ListN.{length, take, getD}
-use borrow.Author.Tests.{leb-true, eqb-true}
 use Rattle.paper.specs.Numbers.{mostTasks, tasksInRange}
 use Rattle.paper.specs.Analysis.{Tasks, tasksOf}
 use Rattle.paper.specs.Rows.{rowSize, rowHolds, Later, Passing, Next, Ended}
 use Rattle.paper.specs.Refusals.{firstOf, firstAsks}
 use Rattle.paper.specs.Answers.{Lists, Says, FirstSays, NextSays}
-use Rattle.paper.specs.declared.Refusal.{Refusal}
 use Rattle.paper.specs.declared.Table.{Table}
 use Rattle.paper.specs.declared.Outcome.{Outcome}
 use Rattle.paper.specs.declared.Outcome.the-variants.{Done, Refused}
 use Rattle.paper.specs.declared.RowAnswer.the-variants as Row
+use Rattle.paper.proofs.Tests.{within}
+use Rattle.paper.proofs.Asks.{met}
+use Rattle.paper.proofs.Formed.{formed}
 use Rattle.paper.proofs.Rows.{later-irreflexive, later-transitive, later-or-same, next-one, next-or-ended}
 
 -- A call answered with a row, in some buffer, and what it wrote is this row.
@@ -50,15 +50,15 @@ pub record Among (row : List ℕ) (rows : List (List ℕ)) : Type 0 where
   pub inside : at < length rows
   pub there : getD rows at [] ≡ row
 
--- Every row of the list passes, every passing row is in it, each row is later than those before it, and so no row comes twice.
-pub record Whole (y : Tasks) (rows : List (List ℕ)) : Type 0 where
-  pub sound : (i : ℕ) → i < length rows → Passing y (getD rows i [])
-  pub complete : (row : List ℕ) → Passing y row → Among row rows
+-- The rows of the list are exactly those that are wanted: each is wanted, each wanted row is in it, each is later than those before it, and so no row comes twice.
+pub record Whole (wanted : List ℕ → Type 0) (rows : List (List ℕ)) : Type 0 where
+  pub sound : (i : ℕ) → i < length rows → wanted (getD rows i [])
+  pub complete : (row : List ℕ) → wanted row → Among row rows
   pub rising : (i j : ℕ) → i < j → j < length rows → Later (getD rows i []) (getD rows j [])
   pub once : (i j : ℕ) → i < j → j < length rows → getD rows i [] ≡ getD rows j [] → ⊥
 
 -- Each row is the next of the one before, and after the last comes the end.
-unfoldable Chain : Tasks → List ℕ → List (List ℕ) → Type 0
+unfoldable pub Chain : Tasks → List ℕ → List (List ℕ) → Type 0
 Chain y given [] = Ended y given
 Chain y given (row ∷ rows) = Next y given row × Chain y row rows
 
@@ -95,6 +95,15 @@ module _ (y : Tasks) where
       (λ w. ⊎-elim (λ e. record { at = 0; inside = suc-le-suc zero-le; there = e }) (λ k. absurd (h .0 .first row p l k)) w)
       (later-or-same first row)
 
+  chain-whole : (given : List ℕ) (rows : List (List ℕ)) → Chain y given rows → Whole (λ row. Passing y row × Later given row) rows
+  chain-whole given rows chain = record {
+    sound = λ i l. (chain-sound given rows chain i l, chain-after given rows chain i l);
+    complete = λ row w. chain-complete given rows chain row (w .0) (w .1);
+    rising = chain-rising given rows chain;
+    once = λ i j a l e.
+        later-irreflexive (getD rows i []) (subst (λ (r : List ℕ). Later (getD rows i []) r) (sym e) (chain-rising given rows chain i j a l));
+  }
+
   chain-one : (given : List ℕ) (rows others : List (List ℕ)) → Chain y given rows → Chain y given others → rows ≡ others
   unfolding Chain
   chain-one given [] [] h k = refl
@@ -105,68 +114,71 @@ module _ (y : Tasks) where
       let same = chain-one row rows others (h .1) (subst (λ (r : List ℕ). Chain y r others) e (k .1)) in
       cc
 
--- A call that answered with a row or with the end was not turned away.
-row-done : (o : Outcome) (y : Tasks) (given out out' : List ℕ) → Says o y given out out' Row.Row → o ≡ Done
-unfolding Says
-row-done Done y given out out' s = refl
-row-done (Refused r) y given out out' s = absurd (let z : _≡_ {A = ℕ} 0 1 = cc (s .0) in omega arith)
-
-end-done : (o : Outcome) (y : Tasks) (given out out' : List ℕ) → Says o y given out out' Row.End → o ≡ Done
-unfolding Says
-end-done Done y given out out' s = refl
-end-done (Refused r) y given out out' s = absurd (let z : _≡_ {A = ℕ} 0 1 = cc (s .0) in omega arith)
-
-gave-row : (o : Outcome) (y : Tasks) (given out out' row : List ℕ) → Says o y given out out' Row.Row → take (rowSize (y .n)) out' ≡ row → Next y given row
+-- A call that answered with a row or with the end was not turned away, and what it says of the row or of the end holds.
+row-said : (o : Outcome) (y : Tasks) (given out out' : List ℕ) → Says o y given out out' Row.Row → (o ≡ Done) × Next y given (take (rowSize (y .n)) out')
 unfolding Says Lists
-gave-row Done y given out out' row s e = subst (λ (r : List ℕ). Next y given r) e (s .0)
-gave-row (Refused r) y given out out' row s e = absurd (let z : _≡_ {A = ℕ} 0 1 = cc (s .0) in omega arith)
+row-said Done y given out out' s = (refl, s .0)
+row-said (Refused r) y given out out' s = absurd (let z : _≡_ {A = ℕ} 0 1 = cc (s .0) in omega arith)
 
-gave-end : (o : Outcome) (y : Tasks) (given out out' : List ℕ) → Says o y given out out' Row.End → Ended y given
+end-said : (o : Outcome) (y : Tasks) (given out out' : List ℕ) → Says o y given out out' Row.End → (o ≡ Done) × Ended y given
 unfolding Says Lists
-gave-end Done y given out out' s = s .0
-gave-end (Refused r) y given out out' s = absurd (let z : _≡_ {A = ℕ} 0 1 = cc (s .0) in omega arith)
+end-said Done y given out out' s = (refl, s .0)
+end-said (Refused r) y given out out' s = absurd (let z : _≡_ {A = ℕ} 0 1 = cc (s .0) in omega arith)
 
-after-chain : (t : Table) (given : List ℕ) (rows : List (List ℕ)) → GivesAfter t given rows → Chain (tasksOf (t .records) (t .n)) given rows
-unfolding GivesAfter Chain NextSays
-after-chain t given [] g = gave-end _ _ given _ _ (g .said)
-after-chain t given (row ∷ rows) g = (gave-row _ _ given _ _ row (g .0 .said) (g .0 .wrote), after-chain t row rows (g .1))
+-- So what the calls answered is a chain.
+module _ (t : Table) where
+  pub next-gave : (given row : List ℕ) → Gave (λ out out'. NextSays t given out out' Row.Row) (rowSize (t .n)) row → Next (tasksOf (t .records) (t .n)) given row
+  unfolding NextSays
+  next-gave given row g = rw (g .wrote) at (row-said _ _ given _ _ (g .said) .1)
 
-start-chain : (t : Table) (rows : List (List ℕ)) → Gives t rows → Chain (tasksOf (t .records) (t .n)) [] rows
-unfolding Gives Chain FirstSays
-start-chain t [] g = gave-end _ _ [] _ _ (g .said)
-start-chain t (row ∷ rows) g = (gave-row _ _ [] _ _ row (g .0 .said) (g .0 .wrote), after-chain t row rows (g .1))
+  pub first-gave : (row : List ℕ) → Gave (λ out out'. FirstSays t out out' Row.Row) (rowSize (t .n)) row → Next (tasksOf (t .records) (t .n)) [] row
+  unfolding FirstSays
+  first-gave row g = rw (g .wrote) at (row-said _ _ [] _ _ (g .said) .1)
 
--- A table that is not turned away has a task, so that no row is empty.
-not-refused : (b : Bool) (r : Refusal) (rest : Outcome) → cond (not b) (Refused r) rest ≡ Done → b ≡ true
-not-refused true r rest e = refl
-not-refused false r rest e = absurd (let z : _≡_ {A = ℕ} 0 1 = cc e in omega arith)
+  pub after-chain : (given : List ℕ) (rows : List (List ℕ)) → GivesAfter t given rows → Chain (tasksOf (t .records) (t .n)) given rows
+  unfolding GivesAfter Chain NextSays
+  after-chain given [] g = end-said _ _ given _ _ (g .said) .1
+  after-chain given (row ∷ rows) g = (next-gave given row (g .0), after-chain row rows (g .1))
 
-some-task : (t : Table) (room : ℕ) → firstOf (firstAsks t room) ≡ Done → 1 ≤ t .n
-some-task t room e = leb-true 1 (t .n) (and-eq-true-iff (leb 1 (t .n)) (leb (t .n) mostTasks) .0 (not-refused (tasksInRange (t .n)) _ _ e) .0)
+  pub start-chain : (rows : List (List ℕ)) → Gives t rows → Chain (tasksOf (t .records) (t .n)) [] rows
+  unfolding Gives Chain FirstSays
+  start-chain [] g = end-said _ _ [] _ _ (g .said) .1
+  start-chain (row ∷ rows) g = (first-gave row (g .0), after-chain row rows (g .1))
+
+-- A table that is not turned away has a task, so that no row is empty:
+pub some-task : (t : Table) (room : ℕ) → firstOf (firstAsks t room) ≡ Done → 1 ≤ t .n
+some-task t room e = within 1 mostTasks (t .n) (met (tasksInRange (t .n)) _ _ e .0) .0
 
 started : (t : Table) (rows : List (List ℕ)) → Gives t rows → 1 ≤ t .n
 unfolding Gives FirstSays
-started t [] g = some-task t _ (end-done _ _ [] _ _ (g .said))
-started t (row ∷ rows) g = some-task t _ (row-done _ _ [] _ _ (g .0 .said))
+started t [] g = some-task t _ (end-said _ _ [] _ _ (g .said) .0)
+started t (row ∷ rows) g = some-task t _ (row-said _ _ [] _ _ (g .0 .said) .0)
 
-later-start : (n : ℕ) (row : List ℕ) → 1 ≤ n → rowHolds n row ≡ true → Later [] row
-unfolding Later rowHolds
-later-start n [] l h = absurd (let e : 0 ≡ 2 * n = eqb-true 0 (2 * n) (and-eq-true-iff (eqb 0 (2 * n)) _ .0 h .0) in omega arith)
+-- a well-formed row is later than one that has not begun.
+pub later-start : (n : ℕ) (row : List ℕ) → 1 ≤ n → rowHolds n row ≡ true → Later [] row
+unfolding Later
+later-start n [] l h = absurd (omega (arith, formed n [] h .size))
 later-start n (a ∷ row) l h = tt
 
 -- Asking from the start and again after each row gives every passing row exactly once, in order, and then the end.
-pub listing-whole : (t : Table) (rows : List (List ℕ)) → Gives t rows → Whole (tasksOf (t .records) (t .n)) rows
+pub listing-whole : (t : Table) (rows : List (List ℕ)) → Gives t rows → Whole (Passing (tasksOf (t .records) (t .n))) rows
 listing-whole t rows g =
-    let y = tasksOf (t .records) (t .n) in
-    let chain = start-chain t rows g in
+    let w = chain-whole (tasksOf (t .records) (t .n)) [] rows (start-chain t rows g) in
     record {
-      sound = chain-sound y [] rows chain;
-      complete = λ row p. chain-complete y [] rows chain row p (later-start (t .n) row (started t rows g) (p .form));
-      rising = chain-rising y [] rows chain;
-      once = λ i j a l e.
-          later-irreflexive (getD rows i []) (subst (λ (r : List ℕ). Later (getD rows i []) r) (sym e) (chain-rising y [] rows chain i j a l));
+      sound = λ i l. w .sound i l .0;
+      complete = λ row p. w .complete row (p, later-start (t .n) row (started t rows g) (p .form));
+      rising = w .rising;
+      once = w .once;
     }
 
--- A table has one such list.
+-- Asking from a row, passing or not, gives every passing row that is later than it, in the same way.
+pub listing-whole-after : (t : Table) (given : List ℕ) (rows : List (List ℕ)) → GivesAfter t given rows
+    → Whole (λ row. Passing (tasksOf (t .records) (t .n)) row × Later given row) rows
+listing-whole-after t given rows g = chain-whole _ given rows (after-chain t given rows g)
+
+-- A table has one such list, from the start and from each row.
 pub listing-one : (t : Table) (rows others : List (List ℕ)) → Gives t rows → Gives t others → rows ≡ others
 listing-one t rows others g h = chain-one _ [] rows others (start-chain t rows g) (start-chain t others h)
+
+pub listing-one-after : (t : Table) (given : List ℕ) (rows others : List (List ℕ)) → GivesAfter t given rows → GivesAfter t given others → rows ≡ others
+listing-one-after t given rows others g h = chain-one _ given rows others (after-chain t given rows g) (after-chain t given others h)

@@ -1,5 +1,5 @@
 -- L, S and F are each the solution of such an equation, and each may be climbed to from where the code starts.
-use Prim.Native.Nat.{ℕ, _+_, _-_, _*_, _≤_, _<_, zero-le}
+use Prim.Native.Nat.{ℕ, zero, suc, _+_, _-_, _*_, _≤_, _<_, zero-le}
 use mathlib.Core.Path.{_≡_, ap, sym, _∙_, fun-ext}
 use mathlib.Core.Bool.{Bool, true, false, cond}
 use mathlib.Core.List.{List}
@@ -70,9 +70,15 @@ module _ (n : ℕ) (cs ts ps : List ℕ) (r : Ready n cs ts ps) (s : Stand) wher
   unfolding solution levelOf
   level-is = least-same _ _ 1 horizon (λ x _. ap (eqb x) (level-side x))
 
-  pub level-rises : (i : ℕ) → i < n → s .b ≤ mostTicks → s .p ≡ getD ps i 0 → Rises (timesBy n cs ts) ps (levelBy s) 1
+  -- the climb may start at 0 or at 1: only its start keeps L above the trivial answer 0
+  own-job : (i from : ℕ) → i < n → from ≤ 1 → from ≤ before (timesBy n cs ts) from i
+  own-job i zero l h = zero-le
+  own-job i (suc zero) l h = first-job (timesBy n cs ts) i 1 (r .periods .above i l) (le-refl 1)
+  own-job i (suc (suc k)) l h = absurd (omega arith)
+
+  pub level-rises : (from i : ℕ) → from ≤ 1 → i < n → s .b ≤ mostTicks → s .p ≡ getD ps i 0 → Rises (timesBy n cs ts) ps (levelBy s) from
   unfolding levelSum
-  level-rises i l b own =
+  level-rises from i one l b own =
       record {
         base = omega arith;
         edge = zero-le;
@@ -80,9 +86,9 @@ module _ (n : ℕ) (cs ts ps : List ℕ) (r : Ready n cs ts ps) (s : Stand) wher
         rise =
             omega (
               arith,
-              level-side 1,
-              load-part (timesBy n cs ts) (λ j. leb (getD ps j 0) (s .p)) (before (timesBy n cs ts) 1) i l (le-leb (getD ps i 0) (s .p) (omega arith)),
-              mul-le-mul (first-job (timesBy n cs ts) i 1 (r .periods .above i l) (le-refl 1)) (r .costs .above i l),
+              level-side from,
+              load-part (timesBy n cs ts) (λ j. leb (getD ps j 0) (s .p)) (before (timesBy n cs ts) from) i l (le-leb (getD ps i 0) (s .p) (omega arith)),
+              mul-le-mul (own-job i from l one) (r .costs .above i l),
             );
       }
 

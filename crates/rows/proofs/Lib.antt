@@ -1,4 +1,3 @@
 pub mod Copies
 pub mod Places
 pub mod Columns
-pub mod Exhausted

@@ -1,5 +1,5 @@
 -- Where a record number stands in an order, and a row place by place.
-use Prim.Native.Nat.{ℕ, suc, _+_, _-_, _<_, _≤_}
+use Prim.Native.Nat.{ℕ, suc, _+_, _<_, _≤_}
 use native.Mathlib.Decide.{decLe}
 use native.Mathlib.Numerals.{add-one}
 use native.Mathlib.Omega.{arith}
@@ -8,17 +8,17 @@ use mathlib.Core.Bool.{Bool, true, false, not, cond, _&&_}
 use mathlib.Core.List.{List, [], _∷_}
 use mathlib.Core.Logic.{by-cases}
 use lib.Dec.{leb, eqb}
-use lib.ListN.{length, take, drop, getD, length-take, drop-of-length-le}
+use lib.ListN.{length, take, drop, getD, drop-of-length-le}
 use lib.Seq.{getD-take, take-take, length-take-le, drop-cons}
-use borrow.Author.Tests.{eq-eqb, ne-eqb, eqb-true, lt-ltb, le-ltb, le-leb}
+use borrow.Author.Tests.{eq-eqb, ne-eqb, lt-ltb, le-ltb, le-leb}
 use Rattle.paper.specs.Vocabulary.{every}
-use Rattle.paper.specs.Numbers.{eachOnce, thresholdsHold}
-use Rattle.paper.specs.Rows.{rowSize, placeOf, rowAssignment, rowHolds}
+use Rattle.paper.specs.Numbers.{eachOnce}
+use Rattle.paper.specs.Rows.{rowSize, placeOf}
 use Rattle.laws.specs.Order.{Within}
 use Rattle.paper.proofs.Tests.{both, every-says}
+use Rattle.paper.proofs.Formed.{Formed, formed-threshold, formed-range}
 use Rattle.laws.proofs.Every.{every-same}
 use Rattle.laws.proofs.Order.{within-all}
-use Rattle.columns.proofs.Fair.{each-once-range, threshold-range}
 use Rattle.rows.specs.Places.{freshAt, fitsAt}
 
 -- what is left of an order after i places: the turn of a loop that looks for v
@@ -40,16 +40,7 @@ module _ (n : ℕ) (d : List ℕ) (fits : n ≤ length d) (i v : ℕ) where
   unfolding placeOf
   place-none l = rw (drop-of-length-le (take n d) {i = i} (rw (length-take-le n d fits) l))
 
--- a place is counted from 1, up to the length of the order
-pub place-most : (order : List ℕ) (v : ℕ) → placeOf order v ≤ length order
-unfolding placeOf
-place-most [] v = omega arith
-place-most (a ∷ order) v = go (eqb a v) (place-most order v)
-  where
-    go : (b : Bool) → placeOf order v ≤ length order → cond b 1 (suc (placeOf order v)) ≤ suc (length order)
-    go true h = omega arith
-    go false h = omega arith
-
+-- a place is counted from 1
 pub place-least : (order : List ℕ) (v : ℕ) → 1 ≤ length order → 1 ≤ placeOf order v
 unfolding placeOf
 place-least [] v h = absurd (omega arith)
@@ -59,38 +50,9 @@ place-least (a ∷ order) v h = go (eqb a v)
     go true = omega arith
     go false = omega arith
 
--- What a well-formed row is.
-pub record Formed (n : ℕ) (row : List ℕ) : Type 0 where
-  pub size : length row ≡ rowSize n
-  pub order : eachOnce n (λ i. getD row i 0) ≡ true
-  pub thresholds : thresholdsHold n (rowAssignment n row) ≡ true
-
-pub formed : (n : ℕ) (row : List ℕ) → rowHolds n row ≡ true → Formed n row
-unfolding rowHolds
-formed n row h =
-    let a = both (eqb (length row) (rowSize n)) (eachOnce n (λ i. getD row i 0) && thresholdsHold n (rowAssignment n row)) h in
-    let b = both (eachOnce n (λ i. getD row i 0)) (thresholdsHold n (rowAssignment n row)) (a .1) in
-    record { size = eqb-true (length row) (rowSize n) (a .0); order = b .0; thresholds = b .1 }
-
--- its thresholds, by their places
-formed-threshold : (n : ℕ) (row : List ℕ) → Formed n row → (i : ℕ) → n ≤ i → i < rowSize n
-    → (1 ≤ getD row i 0) × (getD row i 0 ≤ placeOf (take n row) (i - n + 1))
-unfolding rowAssignment
-formed-threshold n row f i l h =
-    let r = threshold-range n (rowAssignment n row) (f .thresholds) (i - n) (omega arith) in
-    let e : n + (i - n) ≡ i = omega arith in
-    rw (add-one (i - n)) (rw e at r)
-
--- its numbers lie from 1 to n
+-- A well-formed row: its numbers lie from 1 to n,
 pub formed-within : (n : ℕ) (row : List ℕ) → Formed n row → Within n row
-formed-within n row f = within-all n row (λ i h. by-cases (decLe n i) (λ l. high i h l) (λ l. each-once-range n _ (f .order) i (omega arith)))
-  where
-    high : (i : ℕ) → i < length row → n ≤ i → (1 ≤ getD row i 0) × (getD row i 0 ≤ n)
-    high i h l =
-        let t = formed-threshold n row f i l (omega (arith, f .size)) in
-        let m = place-most (take n row) (i - n + 1) in
-        let s = length-take n row in
-        (t .0, omega arith)
+formed-within n row f = within-all n row (formed-range n row f)
 
 -- and each fits where it stands
 once-fresh : (n : ℕ) (f : ℕ → ℕ) → eachOnce n f ≡ true → (k : ℕ) → k < n → every k (λ j. not (eqb (f j) (f k))) ≡ true

@@ -1,13 +1,21 @@
 // Shows a cabinet file to a person. From standard input: five plate bytes (cabinet 24, line 16), then the file, as for
-// `list`. Two arguments may name files: the cabinet's name list, and the house's.
+// `list`. Three arguments may name files: the cabinet's name list, the house's, and the catalogue of region lengths, a number
+// to a line; an empty argument names none. A name list that can't be had whole is said on standard error, and a job whose name
+// it lacks is shown by its number. A catalogue that can't be had ends the program without a sheet: one that was made with
+// another catalogue would look whole.
 //
 // The table's headings: due is the deadline, pr the priority, th the threshold, resp the response time, slack what is left
 // from it to the deadline, tol the tolerance, and fit whether every region of the job is at most its length.
+mod arguments;
+mod unnamed;
+
 ghost use Prim.Native.Nat.{_≤_};
 ghost use lib.ListN.{length};
-ghost use Rattle.io.specs.Counts.{Counts};
+use arguments::LIST_AND_ONE;
+use catalogue::MOST_NAMED;
 use paper::Cabinet;
 use paper::Line;
+use paper::MOST_TASKS;
 use paper::MOST_WORDS;
 use paper::Outcome;
 use paper::Refusal;
@@ -22,12 +30,58 @@ fn put_plate(buf: &mut [u8], cabinet: Cabinet, line: Line) -> usize
     say::count(buf, first, b", line", line.0 as u64)
 }
 
-fn put_refused(buf: &mut [u8], at: usize, r: Refusal) -> usize
+// The number of the first job of a file that takes its regions from the catalogue and finds it ending before them, or 0.
+fn first_outside(file: &[u8], catalogue: &[u32]) -> usize {
+    if file.len() < layout::SHORTEST {
+        return 0;
+    }
+    let n = layout::task_count(file);
+    if MOST_TASKS < n {
+        return 0;
+    }
+    if file.len() < layout::HEAD_BYTES + layout::RECORD_BYTES * n {
+        return 0;
+    }
+    let t = unpack::table_in(file, n);
+    let rs = t.records;
+    show_facts::first_outside(rs, n, catalogue.len())
+}
+
+fn put_outside(buf: &mut [u8], at: usize, job: usize, words: usize) -> usize
     requires { ⌜ at ≤ length (now buf) ⌝ }
     ensures { λ x. ⌜ x ≤ length (now (buf .entry)) ⌝ }
 {
-    let ended = say::newline(buf, at);
-    cells::put_refused(buf, ended, r)
+    let numbered = say::count(buf, at, b"refused", numbers::number_of(Refusal::BadRegions));
+    let named = say::count(buf, numbered, b": job", job as u64);
+    let told = say::word(buf, named, b" takes its regions from the catalogue, which");
+    if words == 0 {
+        return say::word(buf, told, b" is empty; the third argument names one\n");
+    }
+    let counted = say::count(buf, told, b" has only", words as u64);
+    say::word(buf, counted, b" numbers\n")
+}
+
+// A job's regions break the rules: where that is because the catalogue ends before them, this is said.
+fn put_regions(buf: &mut [u8], at: usize, file: &[u8], catalogue: &[u32]) -> usize
+    requires { ⌜ at ≤ length (now buf) ⌝ }
+    ensures { λ x. ⌜ x ≤ length (now (buf .entry)) ⌝ }
+{
+    let job = first_outside(file, catalogue);
+    if job == 0 {
+        return cells::put_refused(buf, at, Refusal::BadRegions);
+    }
+    put_outside(buf, at, job, catalogue.len())
+}
+
+fn put_refused(buf: &mut [u8], at: usize, r: Refusal, file: &[u8], catalogue: &[u32]) -> usize
+    requires { ⌜ at ≤ length (now buf) ⌝ }
+    ensures { λ x. ⌜ x ≤ length (now (buf .entry)) ⌝ }
+{
+    let start = say::newline(buf, at);
+    match r {
+        Refusal::BadRegions => put_regions(buf, start, file, catalogue),
+        _ => cells::put_refused(buf, start, r),
+    }
 }
 
 fn put_jobs(buf: &mut [u8], at: usize, t: Table) -> usize
@@ -42,6 +96,7 @@ fn put_jobs(buf: &mut [u8], at: usize, t: Table) -> usize
 fn put_file<'a>(
     buf: &mut [u8],
     input: &[u8],
+    catalogue: &[u32],
     cabinet_names: &'a [u8],
     house_names: &'a [u8],
 ) -> usize
@@ -53,14 +108,16 @@ fn put_file<'a>(
     let cabinet = request::plate_cabinet(input);
     let line = request::plate_line(input);
     let plated = put_plate(buf, cabinet, line);
-    let catalogue: [u32; 0] = [];
+    let file = &input[PLATE_BYTES..];
     let mut words = [0u32; MOST_WORDS];
-    let answer = reader::read(&input[PLATE_BYTES..], cabinet, line, &catalogue, &mut words);
+    let answer = reader::read(file, cabinet, line, catalogue, &mut words);
     let outcome = answer.outcome;
     match outcome {
-        Outcome::Refused(r) => put_refused(buf, plated, r),
+        Outcome::Refused(r) => put_refused(buf, plated, r, file, catalogue),
         Outcome::Done => {
             let t = answer.table;
+            let rs = t.records;
+            unnamed::tell(rs, t.n, cabinet_names, house_names);
             let m = fronts::of_words(&words, answer.words);
             let start = put_jobs(buf, plated, t);
             show_sheet::put_sheet(
@@ -68,7 +125,7 @@ fn put_file<'a>(
                 start,
                 t,
                 &words[..m],
-                &catalogue,
+                catalogue,
                 cabinet_names,
                 house_names,
             )
@@ -76,38 +133,43 @@ fn put_file<'a>(
     }
 }
 
-// The file that an argument names, as far as the list reaches. Nothing, where it is not there or can't be read.
-fn read_list(argument: usize, list: &mut [u8]) -> usize
-    ensures { λ r. ⌜ Counts r (now (list .exit)) ⌝ }
-{
-    if os::arg_count() <= argument {
-        return 0;
+// What the arguments name is read, and the sheet is written out.
+fn show(input: &[u8]) {
+    let mut words = [0u32; MOST_NAMED];
+    let lent = arguments::read_catalogue(3, b"the catalogue", &mut words);
+    if lent.failed {
+        return;
     }
-    let mut path = io::buffer();
-    let n = os::arg(argument, &mut path);
-    let fd = os::open_read(&path[..n]);
-    if fd < 0 {
-        os::fail(&path[..n]);
-        return 0;
-    }
-    let got = io::read_full(fd, list);
-    libc::close(fd);
-    got
-}
-
-fn main() {
-    let mut cabinet_names = [0u8; 1024];
-    let c = read_list(1, &mut cabinet_names);
-    let mut house_names = [0u8; 1024];
-    let h = read_list(2, &mut house_names);
-    let mut input = [0u8; PLATE_AND_FILE];
-    let n = io::read_full(libc::STDIN_FILENO, &mut input);
+    let w = lent.words;
+    let mut cabinet_names = [0u8; LIST_AND_ONE];
+    let c = arguments::read_names(1, b"the cabinet's name list", &mut cabinet_names);
+    let mut house_names = [0u8; LIST_AND_ONE];
+    let h = arguments::read_names(2, b"the house's name list", &mut house_names);
     let mut buf = io::large_buffer();
     let end = put_file(
         &mut buf,
-        &input[..n],
+        input,
+        &words[..w],
         &cabinet_names[..c],
         &house_names[..h],
     );
     text::flush(&buf, end);
+}
+
+// Standard input comes first: where it is closed, a file that is opened would get its number.
+fn main() {
+    let mut input = [0u8; PLATE_AND_FILE];
+    let got = intake::read_whole(libc::STDIN_FILENO, &mut input);
+    if got.failed {
+        os::fail(b"standard input");
+        return;
+    }
+    if 4 < os::arg_count() {
+        io::write_all(
+            libc::STDERR_FILENO,
+            b"arguments past the third are not looked at\n",
+        );
+    }
+    let n = got.bytes;
+    show(&input[..n]);
 }

@@ -1,11 +1,21 @@
-// What the public calls say of a table, as cells.
-ghost use Prim.Native.Nat.{_<_};
-ghost use Rattle.paper.specs.Numbers.{mostTasks};
+// What the public calls say of a table: the cells of each job, the note under the table, and the verdict. specs/Sheet.antt says
+// what each is by the calls' answers. Which words stand for it is for the crate above.
+ghost use Prim.Native.Nat.{_+_, _<_, _≤_, min};
+ghost use mathlib.Core.Path.{_≡_};
+ghost use mathlib.Core.Bool.{false, not};
+ghost use lib.Dec.{leb};
+ghost use lib.ListN.{getD};
+ghost use Rattle.paper.specs.Vocabulary.{listTo, lowest};
+ghost use Rattle.paper.specs.Numbers.{mostTasks, rec};
+ghost use Rattle.paper.specs.Analysis.{within};
+ghost use Rattle.show_facts.specs.Sheet.{timeAt, ticksAt, fitsAt, factsOf, placeCell, timeCell, slackCell, ticksCell, fitCell, shown, cellsOf, firstNote, keepsAt, deadlinesOf, fitOf, verdictOf, inSource, firstOutside};
 use cells::Cell;
+use paper::FitAnswer;
 use paper::MOST_TASKS;
 use paper::Outcome;
 use paper::Record;
-use paper::Response;
+use paper::Refusal;
+use paper::Source;
 use paper::Table;
 use paper::TicksAnswer;
 use paper::Time;
@@ -18,75 +28,77 @@ pub struct Facts {
     pub lengths: TicksAnswer,
     // Whether every region of the job is at most its length, where lengths are given.
     pub fits: [bool; MOST_TASKS],
+    pub check: FitAnswer,
+}
+
+// Why there are dashes in the table: the first call that turned it away.
+pub enum Note {
+    Times(Refusal),
+    Tolerances(Refusal),
+    Lengths(Refusal),
+    Nothing,
+}
+
+// Missed and TooLong hold the number of the first such job.
+pub enum Deadlines {
+    Kept,
+    Missed(usize),
+}
+
+pub enum Fit {
+    Fitting,
+    TooLong(usize),
+    NotChecked,
+}
+
+pub enum Verdict {
+    Checked(Deadlines, Fit),
+    Unchecked,
 }
 
 // The columns of numbers: cost, period, deadline, priority, threshold, response time, slack, tolerance, length, fit.
 pub const COLUMNS: usize = 10;
 
-fn wide(x: u32) -> u64 {
-    x as u64
-}
-
-fn all_within(words: &[u32], most: u64) -> bool {
-    let mut i: usize = 0;
-    while i < words.len() {
-        if most < wide(words[i]) {
-            return false;
-        }
-        i += 1;
-    }
-    true
-}
-
-fn job_fits<'a>(t: Table, own: &'a [u32], catalogue: &'a [u32], k: usize, length: i64) -> bool
-    requires { ⌜ k < mostTasks ⌝ }
-{
-    if length < 0 {
-        return false;
-    }
-    let words = parts::regions_words(t, own, catalogue, k + 1);
-    all_within(words, say::size_of(length))
-}
-
-fn all_fits<'a>(
-    t: Table,
-    own: &'a [u32],
-    catalogue: &'a [u32],
+fn all_fits(
+    rs: [Record; MOST_TASKS],
     lengths: [i64; MOST_TASKS],
-) -> [bool; MOST_TASKS] {
+    own: &[u32],
+    catalogue: &[u32],
+) -> [bool; MOST_TASKS]
+    ensures { λ fs. ⌜ fs ≡ listTo mostTasks (fitsAt rs lengths (now (own .entry)) (now (catalogue .entry))) ⌝ }
+{
     let mut fits = [false; MOST_TASKS];
     let mut k: usize = 0;
     while k < MOST_TASKS {
-        fits[k] = job_fits(t, own, catalogue, k, lengths[k]);
+        fits[k] = lengths::record_fits(rs[k], own, catalogue, lengths[k]);
         k += 1;
     }
     fits
 }
 
-pub fn facts_of<'a>(t: Table, own: &'a [u32], catalogue: &'a [u32]) -> Facts {
+pub fn facts_of(t: Table, own: &[u32], catalogue: &[u32]) -> Facts
+    ensures { λ f. ⌜ f ≡ factsOf t (now (own .entry)) (now (catalogue .entry)) ⌝ }
+{
     let times = response::response_times(t);
     let tolerances = lengths::tolerances(t);
     let lengths = lengths::lengths(t);
+    let rs = t.records;
     let ticks = lengths.ticks;
-    let fits = all_fits(t, own, catalogue, ticks);
+    let fits = all_fits(rs, ticks, own, catalogue);
+    let check = lengths::region_check(t, own, catalogue);
     Facts {
         table: t,
         times,
         tolerances,
         lengths,
         fits,
+        check,
     }
 }
 
-fn is_done(outcome: Outcome) -> bool {
-    match outcome {
-        Outcome::Done => true,
-        Outcome::Refused(_) => false,
-    }
-}
-
-// A priority or a threshold, where the jobs have them.
-fn place_cell(x: u32) -> Cell {
+fn place_cell(x: u32) -> Cell
+    ensures { λ r. ⌜ r ≡ placeCell x ⌝ }
+{
     if x == 0 {
         Cell::Dash
     } else {
@@ -94,25 +106,18 @@ fn place_cell(x: u32) -> Cell {
     }
 }
 
-fn record_cell(r: Record, column: usize) -> Cell {
-    match column {
-        0 => Cell::Number(r.cost as u64),
-        1 => Cell::Number(r.period as u64),
-        2 => Cell::Number(r.deadline as u64),
-        3 => place_cell(r.priority),
-        _ => place_cell(r.threshold),
-    }
-}
-
-fn time_cell(time: Time) -> Cell {
+fn time_cell(time: Time) -> Cell
+    ensures { λ r. ⌜ r ≡ timeCell time ⌝ }
+{
     match time {
         Time::At(x) => Cell::Number(x),
         Time::Beyond => Cell::Beyond,
     }
 }
 
-// What is left from the response time to the deadline.
-fn slack_cell(time: Time, deadline: u64) -> Cell {
+fn slack_cell(time: Time, deadline: u64) -> Cell
+    ensures { λ r. ⌜ r ≡ slackCell time deadline ⌝ }
+{
     match time {
         Time::At(x) => {
             if x <= deadline {
@@ -125,7 +130,9 @@ fn slack_cell(time: Time, deadline: u64) -> Cell {
     }
 }
 
-fn ticks_cell(x: i64) -> Cell {
+fn ticks_cell(x: i64) -> Cell
+    ensures { λ r. ⌜ r ≡ ticksCell x ⌝ }
+{
     if x < 0 {
         Cell::Minus(say::size_of(x))
     } else {
@@ -133,91 +140,161 @@ fn ticks_cell(x: i64) -> Cell {
     }
 }
 
-fn fit_cell(fits: bool) -> Cell {
+fn fit_cell(fits: bool) -> Cell
+    ensures { λ r. ⌜ r ≡ fitCell fits ⌝ }
+{
     if fits { Cell::Yes } else { Cell::No }
 }
 
-fn time_of(times: [Response; MOST_TASKS], k: usize) -> Time
+fn time_at(answer: TimesAnswer, k: usize) -> Time
     requires { ⌜ k < mostTasks ⌝ }
+    ensures { λ r. ⌜ r ≡ timeAt answer k ⌝ }
 {
+    let times = answer.times;
     let response = times[k];
     response.time
 }
 
-fn times_cell(answer: TimesAnswer, r: Record, k: usize, column: usize) -> Cell
+fn ticks_at(answer: TicksAnswer, k: usize) -> i64
     requires { ⌜ k < mostTasks ⌝ }
+    ensures { λ r. ⌜ r ≡ ticksAt answer k ⌝ }
 {
-    let outcome = answer.outcome;
-    if !is_done(outcome) {
-        return Cell::Dash;
-    }
-    let times = answer.times;
-    let time = time_of(times, k);
-    if column == 5 {
-        return time_cell(time);
-    }
-    slack_cell(time, r.deadline as u64)
-}
-
-fn answer_cell(answer: TicksAnswer, k: usize) -> Cell
-    requires { ⌜ k < mostTasks ⌝ }
-{
-    let outcome = answer.outcome;
-    if !is_done(outcome) {
-        return Cell::Dash;
-    }
     let ticks = answer.ticks;
-    ticks_cell(ticks[k])
+    ticks[k]
 }
 
-fn fits_cell(lengths: TicksAnswer, fits: [bool; MOST_TASKS], k: usize) -> Cell
+fn fit_at(fits: [bool; MOST_TASKS], k: usize) -> bool
     requires { ⌜ k < mostTasks ⌝ }
+    ensures { λ r. ⌜ r ≡ getD fits k false ⌝ }
 {
-    let outcome = lengths.outcome;
-    if !is_done(outcome) {
-        return Cell::Dash;
-    }
-    fit_cell(fits[k])
+    fits[k]
 }
 
 fn record_of(t: Table, k: usize) -> Record
     requires { ⌜ k < mostTasks ⌝ }
+    ensures { λ r. ⌜ r ≡ rec (t .records) k ⌝ }
 {
     let rs = t.records;
     rs[k]
 }
 
+// A cell of a call's answer.
+fn shown_cell(outcome: Outcome, cell: Cell) -> Cell
+    ensures { λ r. ⌜ r ≡ shown outcome cell ⌝ }
+{
+    match outcome {
+        Outcome::Done => cell,
+        Outcome::Refused(_) => Cell::Dash,
+    }
+}
+
+fn response_cell(answer: TimesAnswer, k: usize) -> Cell
+    requires { ⌜ k < mostTasks ⌝ }
+    ensures { λ r. ⌜ r ≡ shown (answer .outcome) (timeCell (timeAt answer k)) ⌝ }
+{
+    let outcome = answer.outcome;
+    shown_cell(outcome, time_cell(time_at(answer, k)))
+}
+
+fn left_cell(answer: TimesAnswer, deadline: u64, k: usize) -> Cell
+    requires { ⌜ k < mostTasks ⌝ }
+    ensures { λ r. ⌜ r ≡ shown (answer .outcome) (slackCell (timeAt answer k) deadline) ⌝ }
+{
+    let outcome = answer.outcome;
+    shown_cell(outcome, slack_cell(time_at(answer, k), deadline))
+}
+
+fn answer_cell(answer: TicksAnswer, k: usize) -> Cell
+    requires { ⌜ k < mostTasks ⌝ }
+    ensures { λ r. ⌜ r ≡ shown (answer .outcome) (ticksCell (ticksAt answer k)) ⌝ }
+{
+    let outcome = answer.outcome;
+    shown_cell(outcome, ticks_cell(ticks_at(answer, k)))
+}
+
+fn fits_cell(lengths: TicksAnswer, fits: [bool; MOST_TASKS], k: usize) -> Cell
+    requires { ⌜ k < mostTasks ⌝ }
+    ensures { λ r. ⌜ r ≡ shown (lengths .outcome) (fitCell (getD fits k false)) ⌝ }
+{
+    let outcome = lengths.outcome;
+    shown_cell(outcome, fit_cell(fit_at(fits, k)))
+}
+
 pub fn cell(f: Facts, k: usize, column: usize) -> Cell
     requires { ⌜ k < mostTasks ⌝ }
+    ensures { λ r. ⌜ r ≡ getD (cellsOf f k) column Cell.Dash ⌝ }
 {
     let r = record_of(f.table, k);
     match column {
-        5 | 6 => times_cell(f.times, r, k, column),
+        0 => Cell::Number(r.cost as u64),
+        1 => Cell::Number(r.period as u64),
+        2 => Cell::Number(r.deadline as u64),
+        3 => place_cell(r.priority),
+        4 => place_cell(r.threshold),
+        5 => response_cell(f.times, k),
+        6 => left_cell(f.times, r.deadline as u64, k),
         7 => answer_cell(f.tolerances, k),
         8 => answer_cell(f.lengths, k),
         9 => {
             let fits = f.fits;
             fits_cell(f.lengths, fits, k)
         }
-        _ => record_cell(r, column),
+        _ => Cell::Dash,
     }
 }
 
-// A job misses its deadline where its response time lies above it, or beyond the horizon.
-fn misses(f: Facts, k: usize) -> bool
-    requires { ⌜ k < mostTasks ⌝ }
+fn first_note(times: Outcome, tolerances: Outcome, lengths: Outcome) -> Note
+    ensures { λ r. ⌜ r ≡ firstNote times tolerances lengths ⌝ }
 {
-    match cell(f, k, 6) {
-        Cell::Number(_) => false,
-        _ => true,
+    if let Outcome::Refused(r) = times {
+        return Note::Times(r);
     }
+    if let Outcome::Refused(r) = tolerances {
+        return Note::Tolerances(r);
+    }
+    if let Outcome::Refused(r) = lengths {
+        return Note::Lengths(r);
+    }
+    Note::Nothing
+}
+
+pub fn note_of(f: Facts) -> Note
+    ensures { λ r. ⌜ r ≡ firstNote (f .times .outcome) (f .tolerances .outcome) (f .lengths .outcome) ⌝ }
+{
+    let times = f.times;
+    let tolerances = f.tolerances;
+    let lengths = f.lengths;
+    let of_times = times.outcome;
+    let of_tolerances = tolerances.outcome;
+    let of_lengths = lengths.outcome;
+    first_note(of_times, of_tolerances, of_lengths)
+}
+
+fn keeps(time: Time, deadline: u64) -> bool
+    ensures { λ b. ⌜ b ≡ within time deadline ⌝ }
+{
+    match time {
+        Time::At(x) => x <= deadline,
+        Time::Beyond => false,
+    }
+}
+
+fn keeps_at(f: Facts, k: usize) -> bool
+    requires { ⌜ k < mostTasks ⌝ }
+    ensures { λ b. ⌜ b ≡ keepsAt f k ⌝ }
+{
+    let r = record_of(f.table, k);
+    keeps(time_at(f.times, k), r.deadline as u64)
 }
 
 // The number of the first job that misses its deadline, or 0.
-pub fn first_late(f: Facts, n: usize) -> usize {
+fn first_late(f: Facts, n: usize) -> usize
+    requires { ⌜ n ≤ mostTasks ⌝ }
+    ensures { λ r. ⌜ r ≡ lowest n (λ k. not (keepsAt f k)) ⌝ }
+{
     let mut k: usize = 0;
-    while k < MOST_TASKS && k < n {
-        if misses(f, k) {
+    while k < n {
+        if !keeps_at(f, k) {
             return k + 1;
         }
         k += 1;
@@ -226,10 +303,91 @@ pub fn first_late(f: Facts, n: usize) -> usize {
 }
 
 // The number of the first job with a region above its length, or 0.
-pub fn first_unfit(fits: [bool; MOST_TASKS], n: usize) -> usize {
+fn first_unfit(fits: [bool; MOST_TASKS], n: usize) -> usize
+    requires { ⌜ n ≤ mostTasks ⌝ }
+    ensures { λ r. ⌜ r ≡ lowest n (λ k. not (getD fits k false)) ⌝ }
+{
     let mut k: usize = 0;
-    while k < MOST_TASKS && k < n {
-        if !fits[k] {
+    while k < n {
+        if !fit_at(fits, k) {
+            return k + 1;
+        }
+        k += 1;
+    }
+    0
+}
+
+fn jobs_of(t: Table) -> usize
+    ensures { λ n. ⌜ n ≤ mostTasks ⌝ }
+    ensures { λ n. ⌜ n ≡ min (t .n) mostTasks ⌝ }
+{
+    let n = t.n;
+    if n < MOST_TASKS { n } else { MOST_TASKS }
+}
+
+fn deadlines_of(late: usize) -> Deadlines
+    ensures { λ r. ⌜ r ≡ deadlinesOf late ⌝ }
+{
+    if late == 0 {
+        return Deadlines::Kept;
+    }
+    Deadlines::Missed(late)
+}
+
+fn fit_of(check: FitAnswer, unfit: usize) -> Fit
+    ensures { λ r. ⌜ r ≡ fitOf check unfit ⌝ }
+{
+    match check {
+        FitAnswer::Fits => Fit::Fitting,
+        FitAnswer::Unfit => Fit::TooLong(unfit),
+        FitAnswer::Refused(_) => Fit::NotChecked,
+    }
+}
+
+pub fn verdict_of(f: Facts) -> Verdict
+    ensures { λ r. ⌜ r ≡ verdictOf f ⌝ }
+{
+    let times = f.times;
+    let outcome = times.outcome;
+    match outcome {
+        Outcome::Refused(_) => Verdict::Unchecked,
+        Outcome::Done => {
+            let n = jobs_of(f.table);
+            let fits = f.fits;
+            let check = f.check;
+            let deadlines = deadlines_of(first_late(f, n));
+            let fit = fit_of(check, first_unfit(fits, n));
+            Verdict::Checked(deadlines, fit)
+        }
+    }
+}
+
+fn in_source(source: Source, inside: bool) -> bool
+    ensures { λ b. ⌜ b ≡ inSource source inside ⌝ }
+{
+    match source {
+        Source::Own => true,
+        Source::Catalogue => inside,
+    }
+}
+
+fn inside(r: Record, size: usize) -> bool
+    ensures { λ b. ⌜ b ≡ inSource (r .source) (leb (r .first + r .count) size) ⌝ }
+{
+    let source = r.source;
+    let first = r.first as usize;
+    let count = r.count as usize;
+    in_source(source, first + count <= size)
+}
+
+// The number of the first job that takes its regions from the catalogue and finds it ending before them, or 0.
+pub fn first_outside(rs: [Record; MOST_TASKS], n: usize, size: usize) -> usize
+    requires { ⌜ n ≤ mostTasks ⌝ }
+    ensures { λ r. ⌜ r ≡ firstOutside rs n size ⌝ }
+{
+    let mut k: usize = 0;
+    while k < n {
+        if !inside(rs[k], size) {
             return k + 1;
         }
         k += 1;

@@ -1,17 +1,19 @@
-// The table of jobs, what could not be told, and the verdict.
+// The table of jobs, what could not be told, and the verdict, in words. What they say is what `show_facts` promises.
 mod names;
 
 ghost use Prim.Native.Nat.{_≤_, _<_};
 ghost use lib.ListN.{length};
 ghost use Rattle.paper.specs.Numbers.{mostTasks};
 use cells::Cell;
-use paper::FitAnswer;
 use paper::MOST_TASKS;
-use paper::Outcome;
 use paper::Refusal;
 use paper::Table;
 use show_facts::COLUMNS;
+use show_facts::Deadlines;
 use show_facts::Facts;
+use show_facts::Fit;
+use show_facts::Note;
+use show_facts::Verdict;
 
 fn put_heading(buf: &mut [u8], at: usize, column: usize, width: usize) -> usize
     requires { ⌜ at ≤ length (now buf) ⌝ }
@@ -250,27 +252,16 @@ fn put_why(buf: &mut [u8], at: usize, what: &[u8], r: Refusal) -> usize
     cells::put_refused(buf, named, r)
 }
 
-// Why there are dashes in the table: the first call that turned it away.
-fn put_notes(buf: &mut [u8], at: usize, f: Facts) -> usize
+fn put_note(buf: &mut [u8], at: usize, note: Note) -> usize
     requires { ⌜ at ≤ length (now buf) ⌝ }
-    ensures { λ r. ⌜ r ≤ length (now (buf .entry)) ⌝ }
+    ensures { λ x. ⌜ x ≤ length (now (buf .entry)) ⌝ }
 {
-    let times = f.times;
-    let of_times = times.outcome;
-    if let Outcome::Refused(r) = of_times {
-        return put_why(buf, at, b"times, tolerances, lengths: ", r);
+    match note {
+        Note::Times(r) => put_why(buf, at, b"times, tolerances, lengths: ", r),
+        Note::Tolerances(r) => put_why(buf, at, b"tolerances, lengths: ", r),
+        Note::Lengths(r) => put_why(buf, at, b"lengths: ", r),
+        Note::Nothing => at,
     }
-    let tolerances = f.tolerances;
-    let of_tolerances = tolerances.outcome;
-    if let Outcome::Refused(r) = of_tolerances {
-        return put_why(buf, at, b"tolerances, lengths: ", r);
-    }
-    let lengths = f.lengths;
-    let of_lengths = lengths.outcome;
-    if let Outcome::Refused(r) = of_lengths {
-        return put_why(buf, at, b"lengths: ", r);
-    }
-    at
 }
 
 fn put_job_number(buf: &mut [u8], at: usize, what: &[u8], job: usize) -> usize
@@ -281,58 +272,56 @@ fn put_job_number(buf: &mut [u8], at: usize, what: &[u8], job: usize) -> usize
     say::word(buf, said, b")")
 }
 
-fn put_deadlines(buf: &mut [u8], at: usize, f: Facts, n: usize) -> usize
+fn put_deadlines(buf: &mut [u8], at: usize, deadlines: Deadlines) -> usize
     requires { ⌜ at ≤ length (now buf) ⌝ }
     ensures { λ r. ⌜ r ≤ length (now (buf .entry)) ⌝ }
 {
-    let late = show_facts::first_late(f, n);
-    if late == 0 {
-        return say::word(buf, at, b"deadlines kept");
+    match deadlines {
+        Deadlines::Kept => say::word(buf, at, b"deadlines kept"),
+        Deadlines::Missed(job) => put_job_number(buf, at, b"deadlines MISSED (job", job),
     }
-    put_job_number(buf, at, b"deadlines MISSED (job", late)
 }
 
-fn put_fit(buf: &mut [u8], at: usize, f: Facts, n: usize, fit: FitAnswer) -> usize
+fn put_fit(buf: &mut [u8], at: usize, fit: Fit) -> usize
     requires { ⌜ at ≤ length (now buf) ⌝ }
     ensures { λ r. ⌜ r ≤ length (now (buf .entry)) ⌝ }
 {
     match fit {
-        FitAnswer::Fits => say::word(buf, at, b", regions fit"),
-        FitAnswer::Unfit => {
-            let fits = f.fits;
-            let unfit = show_facts::first_unfit(fits, n);
-            put_job_number(buf, at, b", regions TOO LONG (job", unfit)
-        }
-        FitAnswer::Refused(_) => say::word(buf, at, b", regions not checked"),
+        Fit::Fitting => say::word(buf, at, b", regions fit"),
+        Fit::TooLong(job) => put_job_number(buf, at, b", regions TOO LONG (job", job),
+        Fit::NotChecked => say::word(buf, at, b", regions not checked"),
     }
 }
 
-// One line that says whether the deadlines are kept and whether the regions fit.
-fn put_verdict(buf: &mut [u8], at: usize, f: Facts, n: usize, fit: FitAnswer) -> usize
+fn put_checked(buf: &mut [u8], at: usize, deadlines: Deadlines, fit: Fit) -> usize
     requires { ⌜ at ≤ length (now buf) ⌝ }
     ensures { λ r. ⌜ r ≤ length (now (buf .entry)) ⌝ }
 {
-    let times = f.times;
-    let outcome = times.outcome;
+    let told = put_deadlines(buf, at, deadlines);
+    let fitted = put_fit(buf, told, fit);
+    say::newline(buf, fitted)
+}
+
+// One line that says whether the deadlines are kept and whether the regions fit.
+fn put_verdict(buf: &mut [u8], at: usize, verdict: Verdict) -> usize
+    requires { ⌜ at ≤ length (now buf) ⌝ }
+    ensures { λ r. ⌜ r ≤ length (now (buf .entry)) ⌝ }
+{
     let start = say::word(buf, at, b"verdict: ");
-    match outcome {
-        Outcome::Refused(_) => say::word(buf, start, b"nothing is checked\n"),
-        Outcome::Done => {
-            let told = put_deadlines(buf, start, f, n);
-            let fitted = put_fit(buf, told, f, n, fit);
-            say::newline(buf, fitted)
-        }
+    match verdict {
+        Verdict::Unchecked => say::word(buf, start, b"nothing is checked\n"),
+        Verdict::Checked(deadlines, fit) => put_checked(buf, start, deadlines, fit),
     }
 }
 
 // What stands under the table.
-fn put_end(buf: &mut [u8], at: usize, f: Facts, n: usize, fit: FitAnswer) -> usize
+fn put_end(buf: &mut [u8], at: usize, f: Facts) -> usize
     requires { ⌜ at ≤ length (now buf) ⌝ }
     ensures { λ r. ⌜ r ≤ length (now (buf .entry)) ⌝ }
 {
     let parted = say::newline(buf, at);
-    let noted = put_notes(buf, parted, f);
-    put_verdict(buf, noted, f, n, fit)
+    let noted = put_note(buf, parted, show_facts::note_of(f));
+    put_verdict(buf, noted, show_facts::verdict_of(f))
 }
 
 pub fn put_sheet<'a, 'b>(
@@ -350,11 +339,10 @@ pub fn put_sheet<'a, 'b>(
     let n = t.n;
     let rs = t.records;
     let f = show_facts::facts_of(t, own, catalogue);
-    let fit = lengths::region_check(t, own, catalogue);
     let names = names::column_width(rs, n, cabinet, house);
     let columns = widths_of(f, n);
     let headed = put_headings(buf, at, names, columns);
     let widths = Widths { names, columns };
     let listed = put_table(buf, headed, f, n, widths, own, catalogue, cabinet, house);
-    put_end(buf, listed, f, n, fit)
+    put_end(buf, listed, f)
 }

@@ -1,23 +1,29 @@
 // Text put into a lent buffer, which a program writes out in large pieces. What doesn't fit is left out: a caller keeps
 // room for what it puts (`room`).
+//
+// The last place of the buffer stays free, so that the buffer's end, as a place, can say that a write failed. From there
+// nothing is put and nothing is written any more: no text ever follows a piece that was lost.
+ghost use mathlib.Core.Path.{_≡_};
 ghost use Prim.Native.Nat.{_≤_};
+ghost use lib.Dec.{eqb};
 ghost use lib.ListN.{length};
+ghost use Rattle.text.specs.Places.{Put, Written};
 
 // One byte at `at`. Each function here answers the place after what it put.
 pub fn put(buf: &mut [u8], at: usize, b: u8) -> usize
     requires { ⌜ at ≤ length (now buf) ⌝ }
-    ensures { λ r. ⌜ r ≤ length (now (buf .entry)) ⌝ }
+    ensures { λ r. ⌜ Put (length (now (buf .entry))) at r ⌝ }
 {
-    if at < buf.len() {
-        buf[at] = b;
-        return at + 1;
+    if buf.len() - at <= 1 {
+        return at;
     }
-    at
+    buf[at] = b;
+    at + 1
 }
 
 pub fn put_all(buf: &mut [u8], at: usize, text: &[u8]) -> usize
     requires { ⌜ at ≤ length (now buf) ⌝ }
-    ensures { λ r. ⌜ r ≤ length (now (buf .entry)) ⌝ }
+    ensures { λ r. ⌜ Put (length (now (buf .entry))) at r ⌝ }
 {
     let mut end = at;
     let mut i: usize = 0;
@@ -31,7 +37,7 @@ pub fn put_all(buf: &mut [u8], at: usize, text: &[u8]) -> usize
 // A number in decimal.
 pub fn put_decimal(buf: &mut [u8], at: usize, x: u64) -> usize
     requires { ⌜ at ≤ length (now buf) ⌝ }
-    ensures { λ r. ⌜ r ≤ length (now (buf .entry)) ⌝ }
+    ensures { λ r. ⌜ Put (length (now (buf .entry))) at r ⌝ }
 {
     if x < 10 {
         return put(buf, at, 48 + (x % 10) as u8);
@@ -44,27 +50,42 @@ pub fn put_decimal(buf: &mut [u8], at: usize, x: u64) -> usize
 // A space and a number.
 pub fn put_next(buf: &mut [u8], at: usize, x: u64) -> usize
     requires { ⌜ at ≤ length (now buf) ⌝ }
-    ensures { λ r. ⌜ r ≤ length (now (buf .entry)) ⌝ }
+    ensures { λ r. ⌜ Put (length (now (buf .entry))) at r ⌝ }
 {
     let end = put(buf, at, b' ');
     put_decimal(buf, end, x)
 }
 
-// Writes out what stands in the buffer.
-pub fn flush(buf: &[u8], at: usize)
-    requires { ⌜ at ≤ length (now buf) ⌝ }
+// Whether a write failed.
+pub fn lost(buf: &[u8], at: usize) -> bool
+    ensures { λ r. ⌜ r ≡ eqb at (length (now (buf .entry))) ⌝ }
 {
-    io::write_all(libc::STDOUT_FILENO, &buf[..at]);
+    at == buf.len()
 }
 
-// Writes the buffer's front out where fewer than `room` places are left, and answers where to go on.
+// Writes out what stands in the buffer, and answers where to go on: at its start. Where the write fails it says so, and the
+// answer is the buffer's end, now and from then on.
+pub fn flush(buf: &[u8], at: usize) -> usize
+    requires { ⌜ at ≤ length (now buf) ⌝ }
+    ensures { λ r. ⌜ Written (length (now (buf .entry))) at r ⌝ }
+{
+    if at == buf.len() {
+        return at;
+    }
+    if io::write_all(libc::STDOUT_FILENO, &buf[..at]) {
+        return 0;
+    }
+    os::fail(b"standard output");
+    buf.len()
+}
+
+// Writes the buffer's front out where no more than `room` places are left, and answers where to go on.
 pub fn room(buf: &[u8], at: usize, room: usize) -> usize
     requires { ⌜ at ≤ length (now buf) ⌝ }
-    ensures { λ r. ⌜ r ≤ length (now (buf .entry)) ⌝ }
+    ensures { λ r. ⌜ Written (length (now (buf .entry))) at r ⌝ }
 {
-    if buf.len() - at < room {
-        flush(buf, at);
-        return 0;
+    if buf.len() - at <= room {
+        return flush(buf, at);
     }
     at
 }

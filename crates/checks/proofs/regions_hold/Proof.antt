@@ -7,10 +7,10 @@ use Rattle.checks.proofs.regions_hold.Statement.{statement}
 use Rattle.checks.proofs.regions_hold.Tie as tie
 
 returns : tie.Need-returns
-returns c = sym (first-large _ _ _ _ (c .if1 .taken))
+returns c = sym (first-large _ _ _ _ (omega arith))
 
 returns-2 : tie.Need-returns-2
-returns-2 c = sym (count-large _ _ _ _ (c .if2 .taken))
+returns-2 c = sym (count-large _ _ _ _ (omega arith))
 
 add-if3 : tie.Need-add-if3
 add-if3 c = search needs

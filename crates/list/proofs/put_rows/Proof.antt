@@ -27,6 +27,9 @@ put-row-requires c κs = search needs
 add-rows : tie.Need-add-rows Inv-loop μ-loop
 add-rows c = search needs
 
+lost-requires : tie.Need-lost-requires Inv-loop μ-loop
+lost-requires c κs = search needs
+
 step-requires : tie.Need-step-requires Inv-loop μ-loop
 step-requires c κs = search needs
 
@@ -35,6 +38,12 @@ loop-less c = search needs
 
 loop-again : tie.Need-loop-again Inv-loop μ-loop
 loop-again c = search needs
+
+loop-less-2 : tie.Need-loop-less-2 Inv-loop μ-loop
+loop-less-2 c = search needs
+
+loop-again-2 : tie.Need-loop-again-2 Inv-loop μ-loop
+loop-again-2 c = search needs
 
 put-end-requires : tie.Need-put-end-requires Inv-loop μ-loop
 put-end-requires c κs = search needs
@@ -59,9 +68,12 @@ put-rows-spec =
     loop-holds
     put-row-requires
     add-rows
+    lost-requires
     step-requires
     loop-less
     loop-again
+    loop-less-2
+    loop-again-2
     put-end-requires
     same-length
     same-length-2

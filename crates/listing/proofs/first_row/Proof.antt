@@ -1,5 +1,6 @@
 -- A refusal is the answer; else the search starts at the digit 1.
 use mathlib.Core.Path.{sym, _∙_}
+use native.Mathlib.Omega.{arith}
 use borrow.Author.Needs.{needs}
 use lib.ListN.{length}
 use Rattle.listing.specs.Search.{Accepted}
@@ -23,7 +24,7 @@ accepted : (c : tie.After-enum-told) → Accepted (c .before .before .before .be
 accepted c = record { done = sym (c .before .before .first-outcome .ensures) ∙ c .enum-told .given .1 }
 
 answer-requires : tie.Need-answer-requires
-answer-requires c κs = (accepted (c .before), first-begun (accepted (c .before)))
+answer-requires c κs = (accepted (c .before), first-begun (accepted (c .before)) (omega arith) (omega arith))
 
 same-length : tie.Need-same-length
 same-length c = search needs

@@ -5,7 +5,7 @@ use borrow.Author.Needs.{needs}
 use lib.ListN.{length}
 use Rattle.listing.specs.Search.{Accepted}
 use Rattle.listing.proofs.Answers.{Loaded, some-tasks, few-tasks, last-most, next-begun, next-refused-says, bad-row-says, next-says}
-use Rattle.rows.proofs.Places.{formed}
+use Rattle.paper.proofs.Formed.{formed}
 use Rattle.listing.proofs.next_row.Statement.{statement}
 use Rattle.listing.proofs.next_row.Tie as tie
 

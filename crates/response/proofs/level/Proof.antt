@@ -11,7 +11,7 @@ solve-requires : tie.Need-solve-requires
 solve-requires c κs =
     let s = c .before in
     let a = s .args in
-    (s .pre .0, level-rises (a .n) (a .c .now) (a .t .now) (a .p .now) (s .pre .0) (a .s) (a .i) (s .pre .1) (s .pre .2) (s .pre .3))
+    (s .pre .0, level-rises (a .n) (a .c .now) (a .t .now) (a .p .now) (s .pre .0) (a .s) _ (a .i) (omega arith) (s .pre .1) (s .pre .2) (s .pre .3))
 
 returns : tie.Need-returns
 returns c =

@@ -1,44 +1,61 @@
--- `show_facts::all_fits` fills the places one by one; the measure is the number that is left.
-use Prim.Native.Nat.{_≤_, _-_}
-use mathlib.Core.Path.{_≡_}
+-- The invariant: the first k places are filled, and the others are false still.
+use Prim.Native.Nat.{_-_, _≤_}
+use mathlib.Core.Path.{_≡_, ap, _∙_}
+use mathlib.Core.Bool.{false}
+use native.Mathlib.Omega.{arith}
+use Rattle.paper.specs.Numbers.{mostTasks, perTask}
+use Rattle.paper.specs.Lengths.{regionsFit}
+use Rattle.laws.proofs.Lists.{per-task-none, per-task-turn, per-task-done, per-task-full}
+use Rattle.tolerance.proofs.Machine.{read-back}
+use Rattle.show_facts.specs.Sheet.{fitsAt}
 use borrow.Author.Needs.{needs}
-use lib.ListN.{length}
-use Rattle.paper.specs.Numbers.{mostTasks}
 use Rattle.show_facts.proofs.all_fits.Statement.{statement}
 use Rattle.show_facts.proofs.all_fits.Tie as tie
 
 abbrev Inv-loop : tie.InvT-loop
-Inv-loop t own catalogue lengths fits₀ k₀ fits k = (length fits ≡ mostTasks) × (k ≤ mostTasks)
+Inv-loop own catalogue rs lengths fits₀ k₀ fits k = (k ≤ mostTasks) × (fits ≡ perTask k (fitsAt rs lengths own catalogue) false)
 
 abbrev μ-loop : tie.MeasureT-loop
-μ-loop t own catalogue lengths fits₀ k₀ fits k = mostTasks - k
+μ-loop own catalogue rs lengths fits₀ k₀ fits k = mostTasks - k
 
 loop-holds : tie.Need-loop-holds Inv-loop μ-loop
-loop-holds c = search needs
+loop-holds c = (omega arith, per-task-none _ false)
 
-mul-job-fits : tie.Need-mul-job-fits Inv-loop μ-loop
-mul-job-fits c = search needs
+mul-record-fits : tie.Need-mul-record-fits Inv-loop μ-loop
+mul-record-fits c = omega arith
 
-array-copy-out-job-fits : tie.Need-array-copy-out-job-fits Inv-loop μ-loop
-array-copy-out-job-fits c = search needs
+array-copy-out-record-fits : tie.Need-array-copy-out-record-fits Inv-loop μ-loop
+array-copy-out-record-fits c = omega arith
 
-job-fits-requires : tie.Need-job-fits-requires Inv-loop μ-loop
-job-fits-requires c κs = search needs
+mul-record-fits-2 : tie.Need-mul-record-fits-2 Inv-loop μ-loop
+mul-record-fits-2 c = omega arith
+
+array-copy-out-record-fits-2 : tie.Need-array-copy-out-record-fits-2 Inv-loop μ-loop
+array-copy-out-record-fits-2 c = omega arith
+
+record-fits-requires : tie.Need-record-fits-requires Inv-loop μ-loop
+record-fits-requires c κs = search needs
 
 array-write-fits : tie.Need-array-write-fits Inv-loop μ-loop
 array-write-fits c = search needs
 
 add-k : tie.Need-add-k Inv-loop μ-loop
-add-k c = search needs
+add-k c = omega arith
 
 loop-less : tie.Need-loop-less Inv-loop μ-loop
-loop-less c = search needs
+loop-less c = omega arith
 
 loop-again : tie.Need-loop-again Inv-loop μ-loop
-loop-again c = search needs
+loop-again c =
+    let l = c .before .before .before .before .loop in
+    let a = c .before .before .before .before .before .before .before .args in (
+      omega arith,
+      per-task-turn (l .k) (fitsAt (a .t1) (a .t2) (a .own .now) (a .catalogue .now)) false (omega arith) (l .inv .1)
+          (c .record-fits .ensures ∙ ap (regionsFit _ _) (read-back _ (c .before .record-fits-arg2 .given))),
+    )
 
 returns : tie.Need-returns Inv-loop μ-loop
-returns c = search needs
+returns c = per-task-done _ mostTasks _ false (c .before .loop .inv .1) (omega arith) ∙ per-task-full _ false
 
 pub all-fits-spec : {M : Type 1} → statement M
 all-fits-spec =
@@ -47,9 +64,11 @@ all-fits-spec =
     Inv-loop
     μ-loop
     loop-holds
-    mul-job-fits
-    array-copy-out-job-fits
-    job-fits-requires
+    mul-record-fits
+    array-copy-out-record-fits
+    mul-record-fits-2
+    array-copy-out-record-fits-2
+    record-fits-requires
     array-write-fits
     add-k
     loop-less

@@ -1,42 +1,48 @@
--- `show_facts::first_late` ends: the measure is the number of places that are left.
-use Prim.Native.Nat.{_≤_, _-_}
-use borrow.Author.Needs.{needs}
-use Rattle.paper.specs.Numbers.{mostTasks}
+-- The invariant: every job passed passes the test.
+use Prim.Native.Nat.{_-_, _≤_}
+use native.Mathlib.Omega.{arith}
+use Rattle.show_facts.specs.Sheet.{keepsAt}
+use Rattle.show_facts.proofs.Firsts.{Passed, first-found, one-more, none-found}
 use Rattle.show_facts.proofs.first_late.Statement.{statement}
 use Rattle.show_facts.proofs.first_late.Tie as tie
 
 abbrev Inv-loop : tie.InvT-loop
-Inv-loop f n k₀ k = k ≤ mostTasks
+Inv-loop f n k₀ k = (k ≤ n) × Passed (keepsAt f) n k
 
 abbrev μ-loop : tie.MeasureT-loop
-μ-loop f n k₀ k = mostTasks - k
+μ-loop f n k₀ k = n - k
 
 loop-holds : tie.Need-loop-holds Inv-loop μ-loop
-loop-holds c = search needs
+loop-holds c = (omega arith, λ j l. absurd (omega arith))
 
-misses-requires : tie.Need-misses-requires Inv-loop μ-loop
-misses-requires c κs = search needs
+keeps-at-requires : tie.Need-keeps-at-requires Inv-loop μ-loop
+keeps-at-requires c κs = omega arith
 
 add-result : tie.Need-add-result Inv-loop μ-loop
-add-result c = search needs
+add-result c = omega arith
 
 returns : tie.Need-returns Inv-loop μ-loop
-returns c = search needs
+returns c =
+    let a = c .before .before .before .before .args in
+    let l = c .before .before .before .loop in
+    first-found (keepsAt (a .f)) (a .n) (l .k) (c .before .before .loop-test .taken) (c .before .keeps-at .ensures) (c .if1 .taken) (l .inv .1)
 
 add-k : tie.Need-add-k Inv-loop μ-loop
-add-k c = search needs
+add-k c = omega arith
 
 loop-less : tie.Need-loop-less Inv-loop μ-loop
-loop-less c = search needs
+loop-less c = omega arith
 
 loop-again : tie.Need-loop-again Inv-loop μ-loop
-loop-again c = search needs
+loop-again c =
+    let a = c .before .before .before .before .args in
+    let l = c .before .before .before .loop in
+    (omega arith, one-more (keepsAt (a .f)) (a .n) (l .k) (c .before .keeps-at .ensures) (c .if1 .left) (l .inv .1))
 
 returns-2 : tie.Need-returns-2 Inv-loop μ-loop
-returns-2 c = search needs
-
-returns-3 : tie.Need-returns-3 Inv-loop μ-loop
-returns-3 c = search needs
+returns-2 c =
+    let a = c .before .before .args in
+    none-found (keepsAt (a .f)) (a .n) (c .before .loop .k) (omega arith) (c .before .loop .inv .1)
 
 pub first-late-spec : {M : Type 1} → statement M
 first-late-spec =
@@ -45,11 +51,10 @@ first-late-spec =
     Inv-loop
     μ-loop
     loop-holds
-    misses-requires
+    keeps-at-requires
     add-result
     returns
     add-k
     loop-less
     loop-again
-    returns-2
-    returns-3)
+    returns-2)

@@ -1,42 +1,49 @@
--- `show_facts::first_unfit` ends: the measure is the number of places that are left.
-use Prim.Native.Nat.{_≤_, _-_}
-use borrow.Author.Needs.{needs}
-use Rattle.paper.specs.Numbers.{mostTasks}
+-- The invariant: every job passed passes the test.
+use Prim.Native.Nat.{_-_, _≤_}
+use native.Mathlib.Omega.{arith}
+use mathlib.Core.Bool.{false}
+use lib.ListN.{getD}
+use Rattle.show_facts.proofs.Firsts.{Passed, first-found, one-more, none-found}
 use Rattle.show_facts.proofs.first_unfit.Statement.{statement}
 use Rattle.show_facts.proofs.first_unfit.Tie as tie
 
 abbrev Inv-loop : tie.InvT-loop
-Inv-loop n fits k₀ k = k ≤ mostTasks
+Inv-loop fits n k₀ k = (k ≤ n) × Passed (λ j. getD fits j false) n k
 
 abbrev μ-loop : tie.MeasureT-loop
-μ-loop n fits k₀ k = mostTasks - k
+μ-loop fits n k₀ k = n - k
 
 loop-holds : tie.Need-loop-holds Inv-loop μ-loop
-loop-holds c = search needs
+loop-holds c = (omega arith, λ j l. absurd (omega arith))
 
-array-read-if2 : tie.Need-array-read-if2 Inv-loop μ-loop
-array-read-if2 c = search needs
+fit-at-requires : tie.Need-fit-at-requires Inv-loop μ-loop
+fit-at-requires c κs = omega arith
 
 add-result : tie.Need-add-result Inv-loop μ-loop
-add-result c = search needs
+add-result c = omega arith
 
 returns : tie.Need-returns Inv-loop μ-loop
-returns c = search needs
+returns c =
+    let a = c .before .before .before .before .args in
+    let l = c .before .before .before .loop in
+    first-found (λ j. getD (a .fits) j false) (a .n) (l .k) (c .before .before .loop-test .taken) (c .before .fit-at .ensures) (c .if1 .taken) (l .inv .1)
 
 add-k : tie.Need-add-k Inv-loop μ-loop
-add-k c = search needs
+add-k c = omega arith
 
 loop-less : tie.Need-loop-less Inv-loop μ-loop
-loop-less c = search needs
+loop-less c = omega arith
 
 loop-again : tie.Need-loop-again Inv-loop μ-loop
-loop-again c = search needs
+loop-again c =
+    let a = c .before .before .before .before .args in
+    let l = c .before .before .before .loop in
+    (omega arith, one-more (λ j. getD (a .fits) j false) (a .n) (l .k) (c .before .fit-at .ensures) (c .if1 .left) (l .inv .1))
 
 returns-2 : tie.Need-returns-2 Inv-loop μ-loop
-returns-2 c = search needs
-
-returns-3 : tie.Need-returns-3 Inv-loop μ-loop
-returns-3 c = search needs
+returns-2 c =
+    let a = c .before .before .args in
+    none-found (λ j. getD (a .fits) j false) (a .n) (c .before .loop .k) (omega arith) (c .before .loop .inv .1)
 
 pub first-unfit-spec : {M : Type 1} → statement M
 first-unfit-spec =
@@ -45,11 +52,10 @@ first-unfit-spec =
     Inv-loop
     μ-loop
     loop-holds
-    array-read-if2
+    fit-at-requires
     add-result
     returns
     add-k
     loop-less
     loop-again
-    returns-2
-    returns-3)
+    returns-2)

@@ -1,0 +1,532 @@
+//! Cabinets, rows and name lists drawn from random numbers: all of them good, so that a call
+//! takes them. What makes them wrong stands in spoil.rs.
+
+use crate::analysis::{passes, Tasks};
+use crate::lengths::lengths;
+use crate::random::Random;
+use crate::table::*;
+
+/// A cabinet as the writer would take it, but for what a later step makes wrong.
+pub struct Cabinet {
+    pub plate: Plate,
+    pub table: Table,
+    pub own: Vec<u32>,
+    pub catalogue: Vec<u32>,
+}
+
+/// What the tasks of a table are like.
+#[derive(Clone, Copy, PartialEq)]
+enum Mood {
+    /// Loads from light to more than full, deadlines around the periods.
+    Any,
+    /// Loads that leave time over, deadlines at most the periods: tolerances mostly above zero.
+    Calm,
+    /// The smallest numbers: all costs 1, periods and deadlines down to 1.
+    Tiny,
+    /// All jobs together take the whole horizon, or one tick more.
+    Brim,
+}
+
+/// A cabinet that the writer takes, of n tasks or sometimes fewer, with a lent catalogue or an
+/// empty one.
+pub fn cabinet(random: &mut Random, n: u32, lent: bool) -> Cabinet {
+    let mood = match random.from(0, 8) {
+        0 => Mood::Brim,
+        1 => Mood::Tiny,
+        2..=4 => Mood::Calm,
+        _ => Mood::Any,
+    };
+    let mut cabinet = Cabinet {
+        plate: plate(random),
+        table: tasks(random, mood, n),
+        own: Vec::new(),
+        catalogue: if lent { catalogue(random) } else { Vec::new() },
+    };
+    for k in 0..cabinet.table.n as usize {
+        give_regions(random, &mut cabinet, k, mood);
+    }
+    if !random.once_in(8) {
+        assign(random, &mut cabinet.table);
+        if mood != Mood::Any && !random.once_in(4) {
+            order_by_deadline(&mut cabinet.table);
+        }
+    }
+    if random.once_in(6) {
+        unnamed_words(random, &mut cabinet.own);
+    }
+    cabinet
+}
+
+/// Own words behind those that records name, up to as many as a file holds.
+fn unnamed_words(random: &mut Random, own: &mut Vec<u32>) {
+    let most = MOST_REGION_WORDS;
+    let m = random.one_of(&[most - 1, most, most]);
+    let word = random.one_of(&[1, MOST_TICKS]);
+    if own.len() < m {
+        own.resize(m, word);
+    }
+}
+
+/// Blank plates (cabinet 0 or line 0) are seldom.
+fn plate(random: &mut Random) -> Plate {
+    let mut plate = Plate {
+        cabinet: random.one_of(&[1, 70_001, MOST_CABINET]),
+        line: random.one_of(&[1, 12, u16::MAX]),
+    };
+    if random.once_in(60) {
+        plate.cabinet = 0;
+    }
+    if random.once_in(60) {
+        plate.line = 0;
+    }
+    plate
+}
+
+/// Mostly short. The long ones reach behind word 127, the last that a first region can name, and
+/// behind word 253, the last that any region can.
+fn catalogue(random: &mut Random) -> Vec<u32> {
+    let length = match random.from(0, 9) {
+        0..=4 => random.from(0, 10),
+        5 => random.from(11, 126),
+        6 => random.one_of(&[127, 128, 129, 200]),
+        _ => random.one_of(&[253, 254, 254, 255, 256, 300]),
+    };
+    (0..length).map(|_| random.from(1, 9)).collect()
+}
+
+/// Cost, period, deadline and name of each task; no assignment and no regions yet.
+fn tasks(random: &mut Random, mood: Mood, n: u32) -> Table {
+    let n = match mood {
+        Mood::Brim => random.from(1, n.min(3)),
+        Mood::Tiny if random.once_in(2) => 1,
+        _ => n,
+    };
+    let mut table = Table {
+        n: n as u8,
+        ..Table::default()
+    };
+    match mood {
+        Mood::Any => any_times(random, &mut table),
+        Mood::Calm => {
+            let load = random.from(20, 80);
+            calm_times(random, &mut table, load);
+        }
+        Mood::Tiny => tiny_times(random, &mut table),
+        Mood::Brim => brim_times(random, &mut table),
+    }
+    give_names(random, &mut table);
+    table
+}
+
+fn give_names(random: &mut Random, table: &mut Table) {
+    for record in &mut table.records[..table.n as usize] {
+        let any = random.from(0, MOST_NAME_NUMBER);
+        record.name = random.one_of(&[any, any, any, any, 0, MOST_NAME_NUMBER]);
+    }
+}
+
+fn any_times(random: &mut Random, table: &mut Table) {
+    let n = table.n as u32;
+    let longest = random.one_of(&[12, 40, 200, 2000, MOST_TICKS]);
+    // Near the full load a task's later jobs may be its worst.
+    let (some, full) = (random.from(30, 110), random.from(85, 100));
+    let load = random.one_of(&[some, full, full]);
+    for record in &mut table.records[..n as usize] {
+        record.period = random.from(1, longest);
+        record.cost = share(record.period, load, n) + random.from(0, 1);
+        record.cost = record.cost.min(MOST_TICKS);
+        record.deadline = match random.from(0, 5) {
+            0 => random.from(1, record.period),
+            1 => (record.period + random.from(0, record.period)).min(MOST_TICKS),
+            _ => record.period,
+        };
+    }
+}
+
+fn calm_times(random: &mut Random, table: &mut Table, load: u32) {
+    let n = table.n as u32;
+    let longest = random.one_of(&[200, 2000, 20_000]);
+    for record in &mut table.records[..n as usize] {
+        record.period = random.from(longest / 10, longest);
+        record.cost = share(record.period, load, n);
+        record.deadline = if random.once_in(2) {
+            record.period
+        } else {
+            random.from(record.period / 2, record.period)
+        };
+    }
+}
+
+/// The cost of one of n tasks that together load the processor by so much of a hundred.
+fn share(period: u32, load: u32, n: u32) -> u32 {
+    (period as u64 * load as u64 / 100 / n as u64).max(1) as u32
+}
+
+fn tiny_times(random: &mut Random, table: &mut Table) {
+    let n = table.n as u32;
+    for record in &mut table.records[..n as usize] {
+        record.cost = 1;
+        record.period = random.from(1, 3 * n);
+        let sooner = random.from(1, record.period);
+        record.deadline = random.one_of(&[sooner, record.period]);
+    }
+}
+
+fn brim_times(random: &mut Random, table: &mut Table) {
+    let n = table.n as usize;
+    let period = random.one_of(&[MOST_TICKS, MOST_TICKS, MOST_TICKS - 1]);
+    let deadline = random.one_of(&[MOST_TICKS, period]);
+    let mut left = MOST_TICKS;
+    for k in 0..n {
+        let others = (n - 1 - k) as u32;
+        let cost = if others == 0 {
+            left
+        } else {
+            random.from(1, left - others)
+        };
+        left -= cost;
+        table.records[k] = Record {
+            cost,
+            period,
+            deadline,
+            ..Record::default()
+        };
+    }
+    // A single cost can't lie above the horizon.
+    if n > 1 && random.once_in(2) {
+        table.records[n - 1].cost += 1;
+    }
+}
+
+/// A well-formed assignment; half of the thresholds are the priorities themselves.
+pub fn assign(random: &mut Random, table: &mut Table) {
+    let n = table.n as usize;
+    let mut order: Vec<usize> = (0..n).collect();
+    for k in (1..n).rev() {
+        order.swap(k, random.place(k + 1));
+    }
+    for (place, k) in order.into_iter().enumerate() {
+        let priority = place as u32 + 1;
+        table.records[k].priority = priority;
+        table.records[k].threshold = if random.once_in(2) {
+            priority
+        } else {
+            random.from(1, priority)
+        };
+    }
+}
+
+/// Gives the priorities again, the earliest deadline the highest. Each threshold goes with its
+/// priority, so the assignment stays well formed.
+fn order_by_deadline(table: &mut Table) {
+    let n = table.n as usize;
+    let mut places: Vec<(u32, u32)> = Vec::new();
+    for record in table.tasks() {
+        places.push((record.priority, record.threshold));
+    }
+    places.sort();
+    let mut order: Vec<usize> = (0..n).collect();
+    order.sort_by_key(|k| table.records[*k].deadline);
+    for (k, (priority, threshold)) in order.into_iter().zip(places) {
+        (table.records[k].priority, table.records[k].threshold) = (priority, threshold);
+    }
+}
+
+// ---- regions
+
+/// Regions of one record: a run of the catalogue or of the own words that other records name
+/// already, whose sum becomes its cost; or words of its own.
+fn give_regions(random: &mut Random, cabinet: &mut Cabinet, k: usize, mood: Mood) {
+    if mood != Mood::Brim && !cabinet.catalogue.is_empty() && random.once_in(3) {
+        let (first, count) = run_of(random, cabinet.catalogue.len(), mood);
+        let cost = cabinet.catalogue[first..first + count].iter().sum();
+        name_run(random, cabinet, k, Source::Catalogue, (first, count, cost));
+        return;
+    }
+    if mood != Mood::Brim && !cabinet.own.is_empty() && random.once_in(4) {
+        let (first, count) = run_of(random, cabinet.own.len(), mood);
+        let cost: u32 = cabinet.own[first..first + count].iter().sum();
+        if cost <= MOST_TICKS {
+            name_run(random, cabinet, k, Source::Own, (first, count, cost));
+            return;
+        }
+    }
+    own_words(random, cabinet, k, mood);
+}
+
+/// First and count of some words of a list, also the most that a record can name.
+fn run_of(random: &mut Random, length: usize, mood: Mood) -> (usize, usize) {
+    let most = MOST_REGION_PLACE as usize;
+    let last_first = most.min(length - 1);
+    if random.once_in(4) {
+        return (last_first, most.min(length - last_first));
+    }
+    let first = random.place(last_first + 1);
+    let longest = if mood == Mood::Calm { 4 } else { most };
+    let left = longest.min(length - first);
+    let some = 1 + random.place(left);
+    (first, random.one_of(&[left, some]))
+}
+
+/// The record names this run. Its cost is the run's sum, so mostly its period and deadline grow
+/// where they would be too short for it.
+fn name_run(
+    random: &mut Random,
+    cabinet: &mut Cabinet,
+    k: usize,
+    source: Source,
+    (first, count, cost): (usize, usize, u32),
+) {
+    let n = cabinet.table.n as u64;
+    let record = &mut cabinet.table.records[k];
+    (record.first, record.count) = (first as u32, count as u32);
+    (record.source, record.cost) = (source, cost);
+    let wide = (cost as u64 * n * 2).min(MOST_TICKS as u64) as u32;
+    if record.period < wide && !random.once_in(4) {
+        record.period = wide;
+        record.deadline = wide;
+    }
+}
+
+/// New own words for a record, at most twelve, so that eight records stay below a hundred.
+fn own_words(random: &mut Random, cabinet: &mut Cabinet, k: usize, mood: Mood) {
+    let record = &mut cabinet.table.records[k];
+    let most = match mood {
+        Mood::Calm => 12,
+        Mood::Brim if random.once_in(2) => 1,
+        _ => 4,
+    };
+    let parts = random.from(1, record.cost.min(most));
+    record.first = cabinet.own.len() as u32;
+    record.count = parts;
+    let mut left = record.cost;
+    for part in (1..parts).rev() {
+        // Calm regions are of much the same length, so that the longest may fit.
+        let word = if mood == Mood::Calm {
+            left / (part + 1)
+        } else {
+            random.from(1, left - part)
+        };
+        cabinet.own.push(word);
+        left -= word;
+    }
+    cabinet.own.push(left);
+}
+
+/// Regions cut as long as the lengths let them be, half the time one of them a tick longer; the
+/// cabinet stays as it is where that can't be had.
+pub fn cut_to_lengths(random: &mut Random, cabinet: &mut Cabinet) {
+    let mut table = cabinet.table;
+    let mut own = Vec::new();
+    let Ok(lengths) = lengths(&table) else {
+        return;
+    };
+    for (record, length) in table.records.iter_mut().zip(lengths) {
+        let words = pieces(record.cost, length as u32);
+        record.source = Source::Own;
+        (record.first, record.count) = (own.len() as u32, words.len() as u32);
+        own.extend(words);
+    }
+    if own.len() > MOST_REGION_WORDS || own.contains(&0) {
+        return;
+    }
+    if random.once_in(2) {
+        lengthen_one(&table, &mut own);
+    }
+    (cabinet.table, cabinet.own) = (table, own);
+}
+
+/// A region of the first task that can do so takes a tick from the one behind it.
+fn lengthen_one(table: &Table, own: &mut [u32]) {
+    for task in table.tasks() {
+        let last = (task.first + task.count) as usize - 1;
+        if task.count > 1 && own[last] > 1 {
+            own[last - 1] += 1;
+            own[last] -= 1;
+            return;
+        }
+    }
+}
+
+/// Words of the whole cost, each as long as may be; a word of 0 where none may.
+fn pieces(cost: u32, length: u32) -> Vec<u32> {
+    if length == 0 || cost / length > MOST_REGION_WORDS as u32 {
+        return vec![0];
+    }
+    let mut words = vec![length; (cost / length) as usize];
+    if cost % length > 0 {
+        words.push(cost % length);
+    }
+    words
+}
+
+// ---- rows
+
+/// The fewest tasks of a table that has too many rows to walk over all of them.
+pub const MANY_TASKS: u32 = 5;
+
+/// A table of many tasks whose first passing row is one of the first n·(n-1): both programs walk
+/// row by row, so it must be near. Half the time it is the first row of all.
+pub fn near_table(random: &mut Random) -> Table {
+    let row_of_all = random.once_in(2);
+    loop {
+        let mut table = Table {
+            n: random.from(MANY_TASKS, MOST_TASKS as u32) as u8,
+            ..Table::default()
+        };
+        let load = random.from(5, 75);
+        calm_times(random, &mut table, load);
+        give_names(random, &mut table);
+        table.records[..table.n as usize].sort_by_key(|record| record.deadline);
+        if row_passes(&table, &first_row(table.n as usize)) == row_of_all && first_rows_pass(&table)
+        {
+            return table;
+        }
+    }
+}
+
+/// Whether one of the first rows passes: record 1 to n in this order, all thresholds 1 but those
+/// of the last two records, which are the first to move.
+fn first_rows_pass(table: &Table) -> bool {
+    let mut tasks = Tasks::of(table);
+    let n = tasks.n;
+    for k in 0..n {
+        (tasks.priority[k], tasks.threshold[k]) = (k as u32 + 1, 1);
+    }
+    for before_last in 1..n as u32 {
+        for last in 1..=n as u32 {
+            (tasks.threshold[n - 2], tasks.threshold[n - 1]) = (before_last, last);
+            if passes(&tasks) {
+                return true;
+            }
+        }
+    }
+    false
+}
+
+/// A row shortly before one that passes, or shortly before the last row of all.
+pub fn near_row(random: &mut Random, table: &Table) -> Vec<u8> {
+    let mut row = match random.from(0, 2) {
+        0 => last_row(table.n as usize),
+        _ => passing_row(random, table),
+    };
+    for _ in 0..random.one_of(&[0, 1, 1, 2, 5, 12, 30]) {
+        step_back(&mut row);
+    }
+    row
+}
+
+/// A passing row among some that are tried, every other one at the start of its order; if there
+/// is none, the last row of all.
+fn passing_row(random: &mut Random, table: &Table) -> Vec<u8> {
+    for _ in 0..20 {
+        let mut row = any_row(random, table.n as usize);
+        if random.once_in(2) {
+            row[table.n as usize..].fill(1);
+        }
+        if row_passes(table, &row) {
+            return row;
+        }
+    }
+    last_row(table.n as usize)
+}
+
+fn row_passes(table: &Table, row: &[u8]) -> bool {
+    let mut tasks = Tasks::of(table);
+    let (order, thresholds) = row.split_at(tasks.n);
+    for place in 0..tasks.n {
+        tasks.priority[order[place] as usize - 1] = place as u32 + 1;
+        tasks.threshold[place] = thresholds[place] as u32;
+    }
+    passes(&tasks)
+}
+
+/// A well-formed row of n tasks.
+pub fn any_row(random: &mut Random, n: usize) -> Vec<u8> {
+    let mut table = Table {
+        n: n as u8,
+        ..Table::default()
+    };
+    assign(random, &mut table);
+    let mut row = vec![0; 2 * n];
+    for k in 0..n {
+        row[table.records[k].priority as usize - 1] = k as u8 + 1;
+        row[n + k] = table.records[k].threshold as u8;
+    }
+    row
+}
+
+/// 1 2 .. n, all thresholds 1.
+fn first_row(n: usize) -> Vec<u8> {
+    let mut row: Vec<u8> = (1..=n as u8).collect();
+    row.resize(2 * n, 1);
+    row
+}
+
+/// n .. 2 1, each threshold the priority itself.
+pub fn last_row(n: usize) -> Vec<u8> {
+    let falling: Vec<u8> = (1..=n as u8).rev().collect();
+    [&falling[..], &falling[..]].concat()
+}
+
+/// The well-formed row before this one; the first row of all stays.
+pub fn step_back(row: &mut [u8]) {
+    let n = row.len() / 2;
+    let (order, thresholds) = row.split_at_mut(n);
+    if thresholds.iter().all(|threshold| *threshold == 1) && !order_back(order) {
+        return;
+    }
+    for k in (0..n).rev() {
+        if thresholds[k] > 1 {
+            thresholds[k] -= 1;
+            return;
+        }
+        thresholds[k] = priority(order, k);
+    }
+}
+
+/// The place of record k + 1 in the order, counted from 1.
+fn priority(order: &[u8], k: usize) -> u8 {
+    let place = order.iter().position(|record| *record as usize == k + 1);
+    place.expect("each record stands in the order") as u8 + 1
+}
+
+/// The order before this one; says no at the first.
+fn order_back(order: &mut [u8]) -> bool {
+    let Some(place) = (1..order.len()).rev().find(|at| order[at - 1] > order[*at]) else {
+        return false;
+    };
+    let giving_way = order[place - 1];
+    let smaller = order.iter().rposition(|record| *record < giving_way);
+    order.swap(place - 1, smaller.expect("one behind is smaller"));
+    order[place..].reverse();
+    true
+}
+
+// ---- names
+
+/// Bytes that look like a space to many programs, and aren't one.
+pub const LIKE_A_SPACE: [u8; 8] = [0, 9, 10, 11, 12, 13, 0x85, 0xA0];
+
+/// A name list of so many entries.
+pub fn names(random: &mut Random, entries: usize) -> Vec<u8> {
+    (0..entries).flat_map(|_| name_entry(random)).collect()
+}
+
+fn name_entry(random: &mut Random) -> [u8; 16] {
+    let any = random.from(0, 16);
+    let used = random.one_of(&[0, 15, 16, 16, any, any]) as usize;
+    let printed = random.once_in(6);
+    let mut entry = [b' '; 16];
+    for byte in &mut entry[..used] {
+        *byte = match random.from(0, 15) {
+            0 => b' ',
+            _ if printed => random.from(33, 126) as u8,
+            _ => random.from(0, 255) as u8,
+        };
+    }
+    if used > 0 && random.once_in(4) {
+        entry[used - 1] = random.one_of(&LIKE_A_SPACE);
+    }
+    entry
+}

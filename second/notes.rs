@@ -1,0 +1,155 @@
+//! What one request and its answer reach, for the count of reach.rs. Every function here notes
+//! all of its things at every request, those that came and those that didn't.
+
+mod analysis_calls;
+mod files;
+mod parts_calls;
+mod rows;
+mod tables;
+
+use crate::analysis::{self, Tasks};
+use crate::ask::Body;
+use crate::cases::CALLS;
+use crate::checks::{self, *};
+use crate::draw::{step_back, LIKE_A_SPACE};
+use crate::file;
+use crate::lengths;
+use crate::listing::Row;
+use crate::reach::Tally;
+use crate::table::*;
+use tables::*;
+
+/// The first words of each call's answers, refusals apart.
+const ANSWERS: [&[&str]; CALLS.len()] = [
+    &["table"],
+    &["file"],
+    &["times"],
+    &["tolerances"],
+    &["lengths"],
+    &["fits", "unfit"],
+    &["row", "end"],
+    &["row", "end"],
+    &["record"],
+    &["regions"],
+    &["name"],
+];
+
+/// Two numbers of a call that can apply together, neighbours among its numbers where these can:
+/// if each of these pairs is answered by its lower number, so is every other pair. A table isn't
+/// both ill formed (10) and unassigned (14).
+#[rustfmt::skip]
+const MEETINGS: [&[(u8, u8)]; CALLS.len()] = [
+    &[(1, 2), (2, 3), (3, 4), (4, 5), (5, 6), (6, 7), (7, 8), (8, 9), (9, 10), (10, 11), (11, 12)],
+    &[(5, 9), (9, 10), (10, 11), (11, 12)],
+    &[(5, 9), (9, 10), (9, 14)],
+    &[(5, 9), (9, 10), (9, 14), (10, 15), (14, 15)],
+    &[(5, 9), (9, 10), (9, 14), (10, 15), (14, 15), (15, 16)],
+    &[(5, 9), (9, 10), (10, 11), (11, 14), (14, 15), (15, 16)],
+    &[(5, 9), (9, 12)],
+    &[(5, 9), (9, 12), (12, 17)],
+    &[(1, 2), (2, 3), (3, 4), (4, 5), (5, 6), (6, 7), (7, 8), (8, 9), (9, 10), (10, 11), (11, 13)],
+    &[(5, 13)],
+    &[(9, 13)],
+];
+
+/// How often a thing is wanted that the stream aims at.
+const AIMED_AT: u64 = 300;
+
+/// An answer's line, and what it says.
+struct Answer<'a> {
+    line: &'a str,
+    refusal: Option<u8>,
+}
+
+impl<'a> Answer<'a> {
+    fn of(line: &'a str) -> Answer<'a> {
+        let number = line.strip_prefix("refused ");
+        let number = number.and_then(|rest| rest.split(' ').next()?.parse().ok());
+        Answer {
+            line,
+            refusal: number,
+        }
+    }
+
+    fn taken(&self) -> bool {
+        self.refusal.is_none()
+    }
+
+    fn refused(&self, number: u8) -> bool {
+        self.refusal == Some(number)
+    }
+
+    /// The words behind the first, without the memory that was lent.
+    fn words(&self) -> impl Iterator<Item = &'a str> {
+        let said = self.line.split(" out").next().unwrap_or("");
+        said.split(' ').skip(1)
+    }
+
+    /// The row that was written, nothing where the answer is no row.
+    fn row(&self, n: usize) -> Vec<u8> {
+        let Some(out) = self.line.strip_prefix("row out ") else {
+            return Vec::new();
+        };
+        let numbers = out.split(' ').take(2 * n);
+        numbers.filter_map(|word| word.parse().ok()).collect()
+    }
+}
+
+/// Notes all that this request reaches. `None` where the answer is none of its call's, or the
+/// body is none.
+pub fn of_request(tally: &mut Tally, kind: u8, body: &[u8], line: &str) -> Option<()> {
+    let answer = &Answer::of(line);
+    outcome(tally, kind, answer)?;
+    let body = Body(body);
+    match kind {
+        1 => files::of_reading(tally, body, answer),
+        2 => files::of_writing(tally, body, answer),
+        3 => analysis_calls::of_times(tally, body, answer),
+        4 => analysis_calls::of_tolerances(tally, body, answer),
+        5 => analysis_calls::of_lengths(tally, body, answer),
+        6 => analysis_calls::of_region_check(tally, body, answer),
+        7 => rows::of_first_row(tally, body, answer),
+        8 => rows::of_next_row(tally, body, answer),
+        9 => files::of_record(tally, body, answer),
+        10 => parts_calls::of_regions(tally, body, answer),
+        _ => parts_calls::of_name(tally, body, answer),
+    }
+}
+
+fn outcome(tally: &mut Tally, kind: u8, answer: &Answer) -> Option<()> {
+    let place = kind as usize - 1;
+    let mut known = false;
+    for number in CALLS[place].1 {
+        tally.note(&format!("refused {number}"), answer.refused(*number));
+        known |= answer.refused(*number);
+    }
+    let word = answer.line.split(' ').next();
+    for said in ANSWERS[place] {
+        tally.note(said, word == Some(said));
+        known |= word == Some(said);
+    }
+    known.then_some(())
+}
+
+/// Numbers that apply to a request, whichever of them wins.
+struct Faults(Vec<u8>);
+
+impl Faults {
+    fn add(&mut self, number: u8, applies: bool) {
+        if applies {
+            self.0.push(number);
+        }
+    }
+
+    fn has(&self, number: u8) -> bool {
+        self.0.contains(&number)
+    }
+
+    /// The lower of two is answered while the higher applies too: their order shows.
+    fn note_meetings(&self, tally: &mut Tally, kind: u8, answer: &Answer) {
+        for (lower, higher) in MEETINGS[kind as usize - 1] {
+            let met = answer.refused(*lower) && self.has(*higher);
+            tally.note(&format!("{lower} before {higher}"), met);
+        }
+    }
+}

@@ -1,0 +1,183 @@
+//! What response times, tolerances, lengths and the region check reach.
+
+use super::*;
+
+pub fn of_times(tally: &mut Tally, mut body: Body, answer: &Answer) -> Option<()> {
+    let table = body.table()?;
+    table_faults(&table, None).note_meetings(tally, 3, answer);
+    note_table(tally, &table, answer);
+    note_counts(tally, table.n, None, answer);
+    let words: Vec<&str> = if answer.taken() {
+        answer.words().collect()
+    } else {
+        Vec::new()
+    };
+    let times: Vec<Option<u64>> = words.iter().map(|word| word.parse().ok()).collect();
+    let tasks = Tasks::of(&table);
+    let any = |what: &dyn Fn(usize, u64) -> bool| {
+        let mut places = times.iter().enumerate();
+        places.any(|(i, time)| time.is_some_and(|time| what(i, time)))
+    };
+    tally.note("a time", any(&|_, _| true));
+    tally.note("beyond", times.contains(&None));
+    let both = times.contains(&None) && any(&|_, _| true);
+    tally.note("beyond beside a time", both);
+    tally.note(
+        "in time at the last tick",
+        any(&|i, r| r == tasks.deadline[i]),
+    );
+    tally.note("late by a tick", any(&|i, r| r == tasks.deadline[i] + 1));
+    tally.note("a time of the whole horizon", any(&|_, r| r == 1_000_000));
+    let later_job = any(&|i, r| first_finish(&tasks, i).is_some_and(|f| f < r));
+    tally.note("a later job is the worst", later_job);
+    tally.note("blocked", any(&|i, _| analysis::blocking(&tasks, i) > 0));
+    tally.note(
+        "not blocked",
+        any(&|i, _| analysis::blocking(&tasks, i) == 0),
+    );
+    let equal = any(&|i, _| blocked_by_equal(&tasks, i));
+    tally.note("blocked by a threshold of its own priority", equal);
+    let arrival = any(&|i, _| starts_at_an_arrival(&tasks, i));
+    tally.note("an arrival at the start, not blocked", arrival);
+    Some(())
+}
+
+fn first_start(tasks: &Tasks, i: usize) -> Option<u64> {
+    analysis::start(tasks, i, analysis::blocking(tasks, i), 0, 0)
+}
+
+/// When the first job ends.
+fn first_finish(tasks: &Tasks, i: usize) -> Option<u64> {
+    let b = analysis::blocking(tasks, i);
+    analysis::finish(tasks, i, b, first_start(tasks, i)?)
+}
+
+/// Whether the largest blocking comes from thresholds equal to the priority alone.
+fn blocked_by_equal(tasks: &Tasks, i: usize) -> bool {
+    let largest = |above: &dyn Fn(u32) -> bool| {
+        let lower = (0..tasks.n).filter(|j| tasks.priority[i] < tasks.priority[*j]);
+        let blocking = lower.filter(|j| above(tasks.threshold[*j]));
+        blocking.map(|j| tasks.cost[j]).max().unwrap_or(0)
+    };
+    let own = tasks.priority[i];
+    largest(&|threshold| threshold <= own) > largest(&|threshold| threshold < own)
+}
+
+/// Whether, with nothing that blocks, the first job's start would fall on the arrival of a higher
+/// task if arrivals at the start itself were left out.
+fn starts_at_an_arrival(tasks: &Tasks, i: usize) -> bool {
+    if analysis::blocking(tasks, i) > 0 {
+        return false;
+    }
+    let higher: Vec<usize> = (0..tasks.n)
+        .filter(|j| tasks.priority[*j] < tasks.priority[i])
+        .collect();
+    let mut start: u64 = 0;
+    loop {
+        let jobs = |j: usize| start.div_ceil(tasks.period[j]).max(1);
+        let sum = higher.iter().map(|j| jobs(*j) * tasks.cost[*j]).sum();
+        if sum == start || sum > MOST_TICKS as u64 {
+            break;
+        }
+        start = sum;
+    }
+    start > 0 && higher.iter().any(|j| start % tasks.period[*j] == 0)
+}
+
+pub fn of_tolerances(tally: &mut Tally, mut body: Body, answer: &Answer) -> Option<()> {
+    let table = body.table()?;
+    table_faults(&table, None).note_meetings(tally, 4, answer);
+    note_table(tally, &table, answer);
+    note_counts(tally, table.n, None, answer);
+    let ticks = ticks_of(answer);
+    tally.note("a tolerance below zero", ticks.iter().any(|t| *t < 0));
+    tally.note("a tolerance of -1", ticks.contains(&-1));
+    tally.note("a tolerance of 0", ticks.contains(&0));
+    tally.note("a tolerance of 1", ticks.contains(&1));
+    tally.note("a tolerance above zero", ticks.iter().any(|t| *t > 0));
+    Some(())
+}
+
+/// The numbers answered; none where the call was turned away.
+fn ticks_of(answer: &Answer) -> Vec<i64> {
+    if !answer.taken() {
+        return Vec::new();
+    }
+    answer
+        .words()
+        .filter_map(|word| word.parse().ok())
+        .collect()
+}
+
+pub fn of_lengths(tally: &mut Tally, mut body: Body, answer: &Answer) -> Option<()> {
+    let table = body.table()?;
+    table_faults(&table, None).note_meetings(tally, 5, answer);
+    note_table(tally, &table, answer);
+    note_counts(tally, table.n, None, answer);
+    let large = answer.taken() && table.n >= 6;
+    tally.note_often(AIMED_AT, "answered at n 6 to 8", large);
+    let ticks = ticks_of(answer);
+    let costs = held(&table);
+    let cost = |k: usize| costs.records[k].cost as i64;
+    let mut places = ticks.iter().enumerate();
+    tally.note("a length of the cost", places.any(|(k, t)| *t == cost(k)));
+    let mut places = ticks.iter().enumerate();
+    tally.note("a length below the cost", places.any(|(k, t)| *t < cost(k)));
+    tally.note("a length of 0", ticks.contains(&0));
+    note_below_zero(tally, &table, answer);
+    Some(())
+}
+
+/// Which record a refusal 16 names.
+fn note_below_zero(tally: &mut Tally, table: &Table, answer: &Answer) {
+    let tolerances = if answer.refused(16) {
+        lengths::tolerances(table).unwrap_or_default()
+    } else {
+        Vec::new()
+    };
+    let below: Vec<usize> = (0..tolerances.len())
+        .filter(|k| tolerances[*k] < 0)
+        .collect();
+    let first = below.first().copied();
+    tally.note("16 names record 1", first == Some(0));
+    tally.note("16 names a later record", first.is_some_and(|k| k > 0));
+    tally.note("16 could name two records", below.len() > 1);
+    let priority = |k: &usize| table.records[*k].priority;
+    let highest = below.iter().copied().min_by_key(priority);
+    tally.note("16 names not the highest of two", highest != first);
+}
+
+pub fn of_region_check(tally: &mut Tally, mut body: Body, answer: &Answer) -> Option<()> {
+    let table = body.table()?;
+    let own = body.words()?;
+    let catalogue = body.words()?;
+    table_faults(&table, Some((&own, &catalogue))).note_meetings(tally, 6, answer);
+    note_table(tally, &table, answer);
+    note_counts(tally, table.n, Some(own.len()), answer);
+    note_words(tally, &own, answer);
+    note_lists(tally, &table, &own, &catalogue, answer);
+    note_places(tally, &table, (&own, &catalogue), answer);
+    note_below_zero(tally, &table, answer);
+    let large = answer.taken() && table.n >= 6;
+    tally.note_often(AIMED_AT, "answered at n 6 to 8", large);
+    tally.note("fits at n 6 to 8", large && answer.line == "fits");
+    tally.note("unfit at n 6 to 8", large && answer.line == "unfit");
+    let left = least_left(&table, &own, &catalogue, answer);
+    tally.note("a region of just its length", left == Some(0));
+    tally.note("a region one too long", left == Some(-1));
+    Some(())
+}
+
+/// The least that a length leaves over its longest region, lengths of the whole cost apart.
+fn least_left(table: &Table, own: &[u32], catalogue: &[u32], answer: &Answer) -> Option<i64> {
+    if !answer.taken() {
+        return None;
+    }
+    let lengths = lengths::lengths(table).ok()?;
+    let left = |(task, length): (&Record, i64)| {
+        let regions = checks::regions(task, own, catalogue)?;
+        let longest = *regions.iter().max()? as i64;
+        (length < task.cost as i64).then_some(length - longest)
+    };
+    table.tasks().iter().zip(lengths).filter_map(left).min()
+}

@@ -1,0 +1,131 @@
+//! What reading, writing and a record out of a file reach.
+
+use super::*;
+
+pub fn of_reading(tally: &mut Tally, mut body: Body, answer: &Answer) -> Option<()> {
+    let plate = body.plate()?;
+    let room = body.two()? as usize;
+    let catalogue = body.words()?;
+    let file = body.bytes()?;
+    let m = head_of(file).map_or(0, |head| head.m);
+    let mut faults = file_faults(plate, &catalogue, file);
+    faults.add(12, room < m);
+    faults.note_meetings(tally, 1, answer);
+    note_file(tally, plate, &catalogue, file, &faults, answer);
+    note_room(tally, room, m, answer);
+    tally.note("no room for no words", answer.taken() && room == 0);
+    Some(())
+}
+
+pub fn of_record(tally: &mut Tally, mut body: Body, answer: &Answer) -> Option<()> {
+    let plate = body.plate()?;
+    let number = body.two()?;
+    let catalogue = body.words()?;
+    let file = body.bytes()?;
+    let n = head_of(file).map_or(0, |head| head.n);
+    let mut faults = file_faults(plate, &catalogue, file);
+    faults.add(13, number == 0 || number > n as u16);
+    faults.note_meetings(tally, 9, answer);
+    note_file(tally, plate, &catalogue, file, &faults, answer);
+    note_record_number(tally, number, n, answer);
+    Some(())
+}
+
+/// The head of a file that is long enough for one.
+fn head_of(file: &[u8]) -> Option<file::Head> {
+    (file.len() >= file::HEAD_BYTES).then(|| file::take_head(file))
+}
+
+/// Table, region words and spare bits of a file whose head and length let them be taken.
+fn contents(file: &[u8]) -> Option<(Table, Vec<u32>, u32)> {
+    let head = head_of(file)?;
+    let counts_wrong = task_count_wrong(head.n) || region_count_wrong(head.m);
+    if counts_wrong || file.len() != file::length(head.n as usize, head.m) {
+        return None;
+    }
+    Some(file::take_all(file, head.n, head.m))
+}
+
+/// Which of 1 to 11 apply to a file; 8 to 11 only where its fields can be taken.
+fn file_faults(plate: Plate, catalogue: &[u32], file: &[u8]) -> Faults {
+    let mut faults = Faults(Vec::new());
+    faults.add(1, file.len() < file::SHORTEST);
+    if let Some(head) = head_of(file) {
+        let length = file::length(head.n as usize, head.m);
+        faults.add(2, head.edition != file::EDITION);
+        faults.add(3, head.cabinet != plate.cabinet);
+        faults.add(4, head.line != plate.line as u32);
+        faults.add(5, task_count_wrong(head.n) || region_count_wrong(head.m));
+        faults.add(6, file.len() != length);
+        faults.add(7, file::seal_wrong(file));
+    }
+    if let Some((table, own, spare)) = contents(file) {
+        faults.add(8, spare != 0);
+        faults.add(9, numbers_wrong(&table));
+        faults.add(10, assignment_wrong(&table));
+        faults.add(11, regions_wrong(&table, &own, catalogue));
+    }
+    faults
+}
+
+/// What reading and the record share. The seal is right where one of 8 to 12 decides.
+fn note_file(
+    tally: &mut Tally,
+    plate: Plate,
+    catalogue: &[u32],
+    file: &[u8],
+    faults: &Faults,
+    answer: &Answer,
+) {
+    let several = [8, 9, 10, 11].iter().filter(|n| faults.has(**n)).count() >= 2;
+    let decided = [8, 9, 10].iter().any(|number| answer.refused(*number));
+    let met = several && decided;
+    tally.note_often(AIMED_AT, "two of 8 to 11, sealed", met);
+    note_head(tally, plate, file, answer);
+    let (table, own, _) = contents(file).unwrap_or_default();
+    note_numbers(tally, &table, answer);
+    note_words(tally, &own, answer);
+    note_lists(tally, &table, &own, catalogue, answer);
+}
+
+fn note_head(tally: &mut Tally, plate: Plate, file: &[u8], answer: &Answer) {
+    let (n, m) = head_of(file).map_or((0, 0), |head| (head.n, head.m));
+    note_counts(tally, n, Some(m), answer);
+    let largest = answer.taken() && plate.cabinet == MOST_CABINET;
+    tally.note("the largest cabinet", largest);
+    tally.note("the largest line", answer.taken() && plate.line == u16::MAX);
+    let wide = answer.refused(3) && plate.cabinet > MOST_CABINET;
+    tally.note("a plate above 24 bits turned away", wide);
+    for length in [22, 356] {
+        let came = answer.taken() && file.len() == length;
+        tally.note(&format!("a file of {length} bytes"), came);
+    }
+    let one_less = answer.refused(1) && file.len() + 1 == file::SHORTEST;
+    tally.note("a file of 21 bytes turned away", one_less);
+    tally.note("no file", answer.refused(1) && file.is_empty());
+}
+
+pub fn of_writing(tally: &mut Tally, mut body: Body, answer: &Answer) -> Option<()> {
+    let plate = body.plate()?;
+    let room = body.two()? as usize;
+    let table = body.table()?;
+    let own = body.words()?;
+    let catalogue = body.words()?;
+    let needed = file::length(held(&table).n as usize, own.len());
+    let mut faults = table_faults(&table, Some((&own, &catalogue)));
+    faults.add(9, plate.cabinet > MOST_CABINET);
+    faults.add(12, room < needed);
+    faults.note_meetings(tally, 2, answer);
+    note_table(tally, &table, answer);
+    note_counts(tally, table.n, Some(own.len()), answer);
+    note_words(tally, &own, answer);
+    note_lists(tally, &table, &own, &catalogue, answer);
+    note_places(tally, &table, (&own, &catalogue), answer);
+    note_room(tally, room, needed, answer);
+    let largest = answer.taken() && plate.cabinet == MOST_CABINET;
+    tally.note("the largest cabinet", largest);
+    let wide = answer.refused(9) && plate.cabinet == MOST_CABINET + 1;
+    tally.note("a cabinet of 2^24 turned away", wide);
+    tally.note("the largest line", answer.taken() && plate.line == u16::MAX);
+    Some(())
+}

@@ -1,0 +1,96 @@
+//! What the first row and the next row reach.
+
+use super::*;
+
+pub fn of_first_row(tally: &mut Tally, mut body: Body, answer: &Answer) -> Option<()> {
+    let room = body.two()? as usize;
+    let table = body.table()?;
+    let n = held(&table).n as usize;
+    let mut faults = table_faults(&table, None);
+    faults.add(12, room < 2 * n);
+    faults.note_meetings(tally, 7, answer);
+    note_listing(tally, &table, room, answer);
+    let row = answer.row(n);
+    let (order, thresholds) = row.split_at(row.len() / 2);
+    let first = order.is_sorted() && thresholds.iter().all(|threshold| *threshold == 1);
+    tally.note("the first row of all", !row.is_empty() && first);
+    tally.note("rows passed over", !row.is_empty() && !first);
+    let many = n >= 5 && !row.is_empty() && !first;
+    tally.note("rows passed over at n 5 to 8", many);
+    for size in 1..=MOST_TASKS {
+        tally.note(&format!("row at n {size}"), row.len() == 2 * size);
+    }
+    for size in 1..=4 {
+        let came = answer.line.starts_with("end") && n == size;
+        tally.note(&format!("end at n {size}"), came);
+    }
+    Some(())
+}
+
+pub fn of_next_row(tally: &mut Tally, mut body: Body, answer: &Answer) -> Option<()> {
+    let room = body.two()? as usize;
+    let table = body.table()?;
+    let given = body.bytes()?;
+    let n = held(&table).n as usize;
+    let mut faults = table_faults(&table, None);
+    faults.add(12, room < 2 * n);
+    faults.add(17, Row::from_numbers(n, given).is_none());
+    faults.note_meetings(tally, 8, answer);
+    note_listing(tally, &table, room, answer);
+    let row = answer.row(n);
+    let mut before = row.clone();
+    step_back(&mut before);
+    let over = !row.is_empty() && before != given;
+    tally.note("the row just behind", !row.is_empty() && before == given);
+    tally.note("rows passed over", over);
+    tally.note("rows passed over at n 5 to 8", over && n >= 5);
+    let other_order = !row.is_empty() && row[..n] != given[..n];
+    tally.note("a row in another order", other_order);
+    tally.note("a row in another order at n 5 to 8", other_order && n >= 5);
+    // A single task has a single row, and none behind it.
+    for size in 2..=MOST_TASKS {
+        tally.note(&format!("row at n {size}"), row.len() == 2 * size);
+    }
+    for size in 1..=MOST_TASKS {
+        let came = answer.line.starts_with("end") && n == size;
+        tally.note(&format!("end at n {size}"), came);
+    }
+    note_bad_row(tally, n, given, answer);
+    Some(())
+}
+
+fn note_listing(tally: &mut Tally, table: &Table, room: usize, answer: &Answer) {
+    let n = held(table).n as usize;
+    note_table(tally, table, answer);
+    note_counts(tally, table.n, None, answer);
+    note_room(tally, room, 2 * n, answer);
+    let own = answer.taken() && assignment_wrong(&held(table));
+    tally.note("answered for a table of a bad assignment", own);
+    let none = answer.taken() && unassigned(&held(table));
+    tally.note("answered for an unassigned table", none);
+}
+
+/// What is wrong with a row that was turned away.
+fn note_bad_row(tally: &mut Tally, n: usize, given: &[u8], answer: &Answer) {
+    let bad = answer.refused(17);
+    tally.note("no row turned away", bad && given.is_empty());
+    tally.note("a number less turned away", bad && given.len() + 1 == 2 * n);
+    tally.note("a number more turned away", bad && given.len() == 2 * n + 1);
+    let whole = bad && given.len() == 2 * n;
+    let (order, thresholds) = given.split_at(n.min(given.len()));
+    let top = n as u8;
+    tally.note("record 0 in a row", whole && order.contains(&0));
+    tally.note("record n + 1 in a row", whole && order.contains(&(top + 1)));
+    let mut sorted = order.to_vec();
+    sorted.sort();
+    let inside = sorted.iter().all(|record| 1 <= *record && *record <= top);
+    let twice = sorted.windows(2).any(|two| two[0] == two[1]);
+    tally.note("a record twice in a row", whole && inside && twice);
+    let good_order = whole && inside && !twice;
+    let threshold = |value| good_order && thresholds.contains(&value);
+    tally.note("threshold 0 in a row", threshold(0));
+    tally.note("threshold n + 1 in a row", threshold(top + 1));
+    let in_range = thresholds.iter().all(|t| 1 <= *t && *t <= top);
+    let above = good_order && in_range;
+    tally.note("a threshold above its priority in a row", above);
+}

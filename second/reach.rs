@@ -1,0 +1,148 @@
+//! What a stream of requests reached, call by call. A comparison of two programs speaks only for
+//! what was asked of them: this counts, for each call, each refusal number and each answer that it
+//! can give, the limits of document 01 with one past them, and pairs of faults that make the
+//! order of the numbers show. What came too seldom is said by name. It knows no answer better
+//! than the two programs: it only reads requests and the answers they agreed on.
+
+use crate::cases::CALLS;
+use crate::notes;
+use crate::Stop;
+use std::collections::BTreeMap;
+use std::io::{BufRead, Read, Write};
+
+/// A stream of fewer requests can't reach everything, so nothing is asserted of it but that each
+/// answer is one that its call can give.
+const SOME: u64 = 20_000;
+/// From this many requests on each thing must have come its wanted number of times; before, once.
+const MANY: u64 = 100_000;
+/// How often a thing is wanted of which nothing else is said.
+const LEAST: u64 = 20;
+
+/// What one call reached.
+#[derive(Default)]
+pub struct Tally {
+    requests: u64,
+    turned_away: u64,
+    things: BTreeMap<String, Thing>,
+}
+
+#[derive(Default)]
+struct Thing {
+    came: u64,
+    wanted: u64,
+}
+
+impl Tally {
+    /// Notes that this thing came, or didn't. It is noted either way, at every request, so that
+    /// one which never comes is missed.
+    pub fn note(&mut self, what: &str, came: bool) {
+        self.note_often(LEAST, what, came);
+    }
+
+    pub fn note_often(&mut self, wanted: u64, what: &str, came: bool) {
+        if !self.things.contains_key(what) {
+            let thing = Thing { came: 0, wanted };
+            self.things.insert(what.to_string(), thing);
+        }
+        if let (true, Some(thing)) = (came, self.things.get_mut(what)) {
+            thing.came += 1;
+        }
+    }
+}
+
+/// Counts a stream and its answers, prints a table and fails where something came too seldom.
+pub fn run(
+    mut requests: impl Read,
+    answers: impl BufRead,
+    output: &mut impl Write,
+) -> Result<(), Stop> {
+    let mut tallies: [Tally; CALLS.len()] = Default::default();
+    let mut count = 0;
+    for answer in answers.lines() {
+        count += 1;
+        let answer = answer?;
+        let (kind, body) = request(&mut requests)?;
+        let tally = &mut tallies[kind as usize - 1];
+        tally.requests += 1;
+        tally.turned_away += answer.starts_with("refused") as u64;
+        if notes::of_request(tally, kind, &body, &answer).is_none() {
+            let call = CALLS[kind as usize - 1].0;
+            return short(format!("request {count}: {call} can't answer `{answer}`"));
+        }
+    }
+    if requests.read(&mut [0])? != 0 {
+        return short(format!("only {count} requests are answered"));
+    }
+    print(&tallies, output)?;
+    let missing = missing(&tallies, count);
+    if missing.is_empty() {
+        Ok(())
+    } else {
+        short(missing.join("\n"))
+    }
+}
+
+fn short(what: String) -> Result<(), Stop> {
+    Err(Stop::Short(what))
+}
+
+/// The next request's kind, one of the calls', and its body.
+fn request(requests: &mut impl Read) -> Result<(u8, Vec<u8>), Stop> {
+    let mut head = [0; 3];
+    requests.read_exact(&mut head)?;
+    let [kind, high, low] = head;
+    if kind < 1 || kind as usize > CALLS.len() {
+        return Err(Stop::Short(format!("there is no kind {kind}")));
+    }
+    let mut body = vec![0; u16::from_be_bytes([high, low]) as usize];
+    requests.read_exact(&mut body)?;
+    Ok((kind, body))
+}
+
+/// A line for each call: how many requests, and which thing it reached least often.
+fn print(tallies: &[Tally], output: &mut impl Write) -> Result<(), Stop> {
+    writeln!(
+        output,
+        "{:<14} {:>8} {:>11} {:>8} {:>6}  rarest",
+        "call", "requests", "turned away", "answered", "things"
+    )?;
+    for ((call, _), tally) in CALLS.iter().zip(tallies) {
+        let rarest = tally.things.iter().min_by_key(|(_, thing)| thing.came);
+        let rarest = rarest.map_or(String::from("-"), |(what, thing)| {
+            format!("{what}: {}", thing.came)
+        });
+        writeln!(
+            output,
+            "{:<14} {:>8} {:>11} {:>8} {:>6}  {rarest}",
+            call,
+            tally.requests,
+            tally.turned_away,
+            tally.requests - tally.turned_away,
+            tally.things.len(),
+        )?;
+    }
+    Ok(())
+}
+
+/// A line for each thing that came too seldom in a stream of so many requests.
+fn missing(tallies: &[Tally], count: u64) -> Vec<String> {
+    let mut lines = Vec::new();
+    if count < SOME {
+        return lines;
+    }
+    for ((call, _), tally) in CALLS.iter().zip(tallies) {
+        if tally.requests == 0 {
+            lines.push(format!("{call}: no request"));
+        }
+        for (what, thing) in &tally.things {
+            let wanted = if count < MANY { 1 } else { thing.wanted };
+            if thing.came < wanted {
+                lines.push(format!(
+                    "{call}, {what}: came {} times, wanted {wanted}",
+                    thing.came
+                ));
+            }
+        }
+    }
+    lines
+}

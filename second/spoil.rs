@@ -1,0 +1,355 @@
+//! What makes a drawn cabinet or its file wrong, or moves it to a limit of document 01.
+
+use crate::draw::Cabinet;
+use crate::file;
+use crate::random::Random;
+use crate::seal::seal;
+use crate::table::*;
+
+/// Numbers at a limit of document 01, and one past it.
+const EDGES: [u32; 20] = [
+    0,
+    1,
+    2,
+    7,
+    8,
+    9,
+    15,
+    16,
+    63,
+    64,
+    100,
+    101,
+    127,
+    128,
+    255,
+    256,
+    999_999,
+    1_000_000,
+    1_000_001,
+    u32::MAX,
+];
+
+/// Costs, periods, deadlines and region words that are out of range.
+const NO_TICKS: [u32; 5] = [0, 0, MOST_TICKS + 1, MOST_TICKS + 1, u32::MAX];
+
+/// Leaves the cabinet as it is (once in three), or makes one thing or more of it wrong, each by a
+/// number that the call asks; 0 stands for a change that a call may take.
+pub fn spoil(random: &mut Random, cabinet: &mut Cabinet, asked: &[u8]) {
+    if random.once_in(3) {
+        return;
+    }
+    for _ in 0..random.one_of(&[1, 1, 2, 3]) {
+        let k = random.place((cabinet.table.n as usize).clamp(1, MOST_TASKS));
+        match random.one_of(asked) {
+            5 => wrong_counts(random, cabinet, asked.contains(&11)),
+            9 => wrong_number(random, &mut cabinet.table.records[k]),
+            10 => wrong_place(random, &mut cabinet.table, k),
+            11 => wrong_regions(random, cabinet, k),
+            14 => clear(&mut cabinet.table),
+            15 => late_deadline(&mut cabinet.table.records[k]),
+            16 => short_deadline(&mut cabinet.table.records[k]),
+            _ => at_a_limit(random, cabinet, k),
+        }
+    }
+}
+
+/// n outside its range, or m where a list of region words is lent.
+pub fn wrong_counts(random: &mut Random, cabinet: &mut Cabinet, words_lent: bool) {
+    if words_lent && random.once_in(2) {
+        let m = random.one_of(&[101, 101, 102, 127, 128, 255, 256]);
+        cabinet.own.resize(m, 1);
+    } else {
+        cabinet.table.n = random.one_of(&[0, 9, 255]);
+    }
+}
+
+pub fn wrong_number(random: &mut Random, record: &mut Record) {
+    match random.from(0, 3) {
+        0 => record.cost = random.one_of(&NO_TICKS),
+        1 => record.period = random.one_of(&NO_TICKS),
+        2 => record.deadline = random.one_of(&NO_TICKS),
+        _ => record.name = random.one_of(&[128, 128, 255, 256, u32::MAX]),
+    }
+}
+
+pub fn wrong_place(random: &mut Random, table: &mut Table, k: usize) {
+    let n = table.n as u32;
+    let edge = random.one_of(&EDGES);
+    let record = &mut table.records[k];
+    if random.once_in(2) {
+        record.priority = random.one_of(&[0, 1, 2, n, n + 1, edge]);
+    } else {
+        let priority = record.priority;
+        record.threshold = random.one_of(&[0, 1, priority.wrapping_add(1), n + 1, edge]);
+    }
+}
+
+fn wrong_regions(random: &mut Random, cabinet: &mut Cabinet, k: usize) {
+    let edge = random.one_of(&EDGES);
+    let record = &mut cabinet.table.records[k];
+    match random.from(0, 10) {
+        0 => record.first = random.one_of(&[edge, 127, 128]),
+        1 => record.count = random.one_of(&[edge, 0, 127, 128]),
+        2 => record.source = random.one_of(&[Source::Own, Source::Catalogue]),
+        3 => record.cost = record.cost.saturating_add(1),
+        4 | 5 => one_past_the_last(random, cabinet, k),
+        6 => cabinet.catalogue.truncate(cabinet.catalogue.len() / 2),
+        7 | 8 => wrong_word(random, &mut cabinet.own),
+        9 => behind_the_list(cabinet, k),
+        _ => wrong_word(random, &mut cabinet.catalogue),
+    }
+}
+
+/// A first region or a count of 128, with the words that would be there and with the cost that
+/// these give: nothing but the 128 is wrong.
+fn one_past_the_last(random: &mut Random, cabinet: &mut Cabinet, k: usize) {
+    let (first, count) = random.one_of(&[(128, 1), (128, 3), (0, 128), (1, 128)]);
+    if cabinet.catalogue.len() < first + count {
+        cabinet.catalogue.resize(first + count, 1);
+    }
+    let words = &cabinet.catalogue[first..first + count];
+    let record = &mut cabinet.table.records[k];
+    record.cost = words.iter().fold(0, |sum, word| sum.saturating_add(*word));
+    record.source = Source::Catalogue;
+    (record.first, record.count) = (first as u32, count as u32);
+}
+
+/// Regions that end one word behind their list.
+fn behind_the_list(cabinet: &mut Cabinet, k: usize) {
+    let record = &mut cabinet.table.records[k];
+    let length = match record.source {
+        Source::Own => cabinet.own.len(),
+        Source::Catalogue => cabinet.catalogue.len(),
+    };
+    record.first = (length as u32 + 1).saturating_sub(record.count);
+}
+
+fn wrong_word(random: &mut Random, list: &mut [u32]) {
+    if !list.is_empty() {
+        let place = random.place(list.len());
+        list[place] = random.one_of(&NO_TICKS);
+    }
+}
+
+pub fn clear(table: &mut Table) {
+    for record in &mut table.records {
+        (record.priority, record.threshold) = (0, 0);
+    }
+}
+
+fn late_deadline(record: &mut Record) {
+    record.period = record.period.min(MOST_TICKS - 1);
+    record.deadline = record.period + 1;
+}
+
+/// A deadline just below the cost, so that the tolerance is below zero.
+fn short_deadline(record: &mut Record) {
+    record.deadline = record.cost.saturating_sub(1).max(1);
+}
+
+/// A change that leaves every number inside its range.
+fn at_a_limit(random: &mut Random, cabinet: &mut Cabinet, k: usize) {
+    let edge = random.one_of(&[1, MOST_TICKS]);
+    let record = &mut cabinet.table.records[k];
+    match random.from(0, 7) {
+        0 => record.cost = edge,
+        1 => record.period = edge,
+        2 => record.deadline = edge,
+        3 | 4 => record.deadline = record.cost,
+        5 => record.deadline = record.period,
+        6 => record.name = random.one_of(&[0, 63, 64, MOST_NAME_NUMBER]),
+        _ => unnamed_catalogue_word(random, cabinet),
+    }
+}
+
+/// A bad word behind the last of the catalogue, where no record names it.
+fn unnamed_catalogue_word(random: &mut Random, cabinet: &mut Cabinet) {
+    cabinet.catalogue.push(random.one_of(&NO_TICKS));
+}
+
+/// Any numbers in a record past n, which nobody looks at; seldom.
+pub fn past_the_last(random: &mut Random, table: &mut Table) {
+    let n = table.n as usize;
+    if n == MOST_TASKS || !random.once_in(6) {
+        return;
+    }
+    let k = n + random.place(MOST_TASKS - n);
+    table.records[k] = Record {
+        cost: random.one_of(&EDGES),
+        period: random.one_of(&EDGES),
+        deadline: random.one_of(&EDGES),
+        priority: random.one_of(&EDGES),
+        threshold: random.one_of(&EDGES),
+        source: random.one_of(&[Source::Own, Source::Catalogue]),
+        first: random.one_of(&EDGES),
+        count: random.one_of(&EDGES),
+        name: random.one_of(&EDGES),
+    };
+}
+
+// ---- files
+
+/// The cabinet's file, whole, or wrong in one of many ways; the plate may be another's, and the
+/// catalogue another one.
+pub fn any_file(random: &mut Random, cabinet: &mut Cabinet) -> Vec<u8> {
+    let mut file = whole_file(cabinet);
+    match random.from(0, 19) {
+        0 => file = random_bytes(random),
+        1 => flip(random, &mut file, 1),
+        2 => {
+            let bits = random.from(2, 40);
+            flip(random, &mut file, bits);
+        }
+        3 => {
+            flip(random, &mut file, 1);
+            seal_again(&mut file);
+        }
+        4 => other_length(random, &mut file),
+        5..=12 => {
+            for _ in 0..random.one_of(&[1, 1, 2, 3]) {
+                damage(random, cabinet, &mut file);
+            }
+            if file.len() >= 2 && !random.once_in(5) {
+                seal_again(&mut file);
+            }
+        }
+        _ => {}
+    }
+    other_plate(random, &mut cabinet.plate);
+    if random.once_in(8) {
+        other_catalogue(random, &mut cabinet.catalogue);
+    }
+    file
+}
+
+/// The cabinet's file.
+pub fn whole_file(cabinet: &Cabinet) -> Vec<u8> {
+    let mut file = vec![0; file::length(MOST_TASKS, MOST_REGION_WORDS)];
+    let length = file::write(
+        cabinet.plate,
+        &cabinet.table,
+        &cabinet.own,
+        &cabinet.catalogue,
+        &mut file,
+    )
+    .expect("the writer takes a drawn cabinet");
+    file.truncate(length);
+    file
+}
+
+fn random_bytes(random: &mut Random) -> Vec<u8> {
+    let some = random.from(0, 60);
+    (0..random.one_of(&[0, 21, 22, some]))
+        .map(|_| random.from(0, 255) as u8)
+        .collect()
+}
+
+fn other_length(random: &mut Random, file: &mut Vec<u8>) {
+    match random.from(0, 2) {
+        0 => file.truncate(random.place(file.len() + 1)),
+        1 => file.truncate(random.from(8, 22) as usize),
+        _ => file.extend(vec![0; random.from(1, 5) as usize]),
+    }
+}
+
+fn flip(random: &mut Random, file: &mut [u8], bits: u32) {
+    for _ in 0..bits {
+        let place = random.place(file.len() * 8);
+        file[place / 8] ^= 0x80 >> (place % 8);
+    }
+}
+
+pub fn seal_again(file: &mut [u8]) {
+    let end = file.len() - 2;
+    let sealed = seal(&file[..end]).to_be_bytes();
+    file[end..].copy_from_slice(&sealed);
+}
+
+/// A plate of another line or cabinet, or of more than 24 bits; seldom. Never made blank here.
+fn other_plate(random: &mut Random, plate: &mut Plate) {
+    if random.once_in(16) {
+        plate.line ^= 1 << random.from(1, 15);
+    }
+    if random.once_in(16) {
+        let bit = random.from(1, 23);
+        plate.cabinet ^= 1 << random.one_of(&[bit, bit, 24]);
+    }
+}
+
+fn other_catalogue(random: &mut Random, catalogue: &mut Vec<u32>) {
+    match random.from(0, 2) {
+        0 => catalogue.truncate(catalogue.len() / 2),
+        1 => catalogue.push(random.one_of(&NO_TICKS)),
+        _ => wrong_word(random, catalogue),
+    }
+}
+
+/// The bit at which a field of record k + 1 starts.
+pub const fn in_record(k: usize, field: usize) -> usize {
+    64 + 96 * k + field
+}
+
+/// Puts a value into the field of this many bits that starts at this bit of the file.
+pub fn put(file: &mut [u8], at: usize, width: usize, value: u32) {
+    for place in 0..width {
+        let bit = (value >> (width - 1 - place) & 1) as u8;
+        let at = at + place;
+        file[at / 8] = file[at / 8] & !(0x80 >> (at % 8)) | bit << (7 - at % 8);
+    }
+}
+
+/// One thing wrong in the cabinet's file, in a field that is chosen. The file may be damaged, and
+/// shorter, already: a field that it no longer holds stays as it is.
+fn damage(random: &mut Random, cabinet: &Cabinet, file: &mut Vec<u8>) {
+    let n = cabinet.table.n as usize;
+    let m = cabinet.own.len();
+    let k = random.place(n);
+    let words = in_record(n, 0);
+    let (at, width, value) = match random.from(0, 18) {
+        0 => (0, 4, random.one_of(&[0, 2, 3, 15])),
+        1 => return wrong_head_count(random, file),
+        2 => return other_length(random, file),
+        3 => (4, 4, 1 << random.from(0, 3)),
+        4 => (in_record(k, 90), 6, 1 << random.from(0, 5)),
+        5 if m % 2 == 1 => (words + 20 * m, 4, 1 << random.from(0, 3)),
+        5 => (in_record(n - 1, 90), 6, 1),
+        6 | 7 => (in_record(k, 0), 20, wrong_ticks(random)),
+        8 | 9 => (in_record(k, 20), 20, wrong_ticks(random)),
+        10 | 11 => (in_record(k, 40), 20, wrong_ticks(random)),
+        12 => (in_record(k, 60), 4, random.from(0, 15)),
+        13 => (in_record(k, 64), 4, random.from(0, 15)),
+        14 => (in_record(k, 68), 1, random.from(0, 1)),
+        15 => (in_record(k, 69), 7, random.one_of(&[1, 126, 127])),
+        16 => (in_record(k, 76), 7, random.one_of(&[0, 1, 126, 127])),
+        _ if m > 0 => (words + 20 * random.place(m), 20, wrong_ticks(random)),
+        _ => (in_record(k, 76), 7, 0),
+    };
+    if at + width <= file.len() * 8 {
+        put(file, at, width, value);
+    }
+}
+
+/// Ticks that are out of range, as a file's 20 bits can say them, or seldom at a limit.
+fn wrong_ticks(random: &mut Random) -> u32 {
+    let edge = random.one_of(&[1, MOST_TICKS]);
+    let past = MOST_TICKS + 1;
+    random.one_of(&[0, 0, past, past, (1 << 20) - 1, edge])
+}
+
+/// An n or m outside its range, half the time with the length that these numbers give, unless a
+/// request could not hold it.
+fn wrong_head_count(random: &mut Random, file: &mut Vec<u8>) {
+    if file.len() < file::HEAD_BYTES {
+        return;
+    }
+    if random.once_in(2) {
+        file[6] = random.one_of(&[0, 9, 255]);
+    } else {
+        file[7] = random.one_of(&[101, 101, 102, 255]);
+    }
+    let length = file::length(file[6] as usize, file[7] as usize);
+    if length < 1000 && random.once_in(2) {
+        file.resize(length, 0);
+    }
+}

@@ -1,0 +1,116 @@
+//! The made streams, and the count of what they reach.
+
+use super::*;
+use crate::draw::{any_row, last_row, step_back};
+use crate::random::Random;
+use crate::{ask, generate, listing, reach, Stop};
+
+/// Few enough requests for a test, and enough for the count to assert.
+const COUNT: u64 = 20_000;
+
+/// The requests of a made stream.
+fn requests(seed: u64, count: u64) -> Vec<Vec<u8>> {
+    let mut list = Vec::new();
+    generate::stream(seed, count, &mut |request| list.push(request.to_vec()));
+    list
+}
+
+fn answers(stream: &[u8]) -> Vec<u8> {
+    let mut output = Vec::new();
+    ask::run(stream, &mut output).expect("answers");
+    output
+}
+
+/// What the count finds missing, or nothing.
+fn missing(stream: &[u8], answers: &[u8]) -> Option<String> {
+    match reach::run(stream, answers, &mut Vec::new()) {
+        Ok(()) => None,
+        Err(Stop::Short(message)) => Some(message),
+        Err(Stop::Wrong(message)) => panic!("{message}"),
+        Err(Stop::Broken(error)) => panic!("{error}"),
+    }
+}
+
+/// The stream without the requests of this kind whose answers begin like this.
+fn without(requests: &[Vec<u8>], kind: u8, begin: &str) -> Vec<u8> {
+    let kept = requests
+        .iter()
+        .filter(|request| request[0] != kind || !answers(request).starts_with(begin.as_bytes()));
+    kept.flatten().copied().collect()
+}
+
+#[test]
+fn a_missing_outcome_is_named() {
+    let requests = requests(5, COUNT + 2_000);
+    let whole = requests.concat();
+    assert_eq!(missing(&whole, &answers(&whole)), None);
+    for (kind, begin, line) in [
+        (1, "refused 8", "read, refused 8: came 0 times, wanted 1"),
+        (6, "unfit", "region check, unfit: came 0 times, wanted 1"),
+        (8, "row", "next row, row: came 0 times, wanted 1"),
+        (
+            10,
+            "refused 13",
+            "regions, refused 13: came 0 times, wanted 1",
+        ),
+    ] {
+        let stream = without(&requests, kind, begin);
+        let said = missing(&stream, &answers(&stream)).expect("a missing outcome");
+        assert!(said.lines().any(|said| said == line), "{said}");
+    }
+    let stream = without(&requests, 11, "");
+    let said = missing(&stream, &answers(&stream)).expect("a missing call");
+    assert!(said.contains("name: no request"), "{said}");
+}
+
+#[test]
+fn an_answer_of_another_call_fails() {
+    let stream = requests(5, 1).concat();
+    let count = answers(&stream)
+        .iter()
+        .filter(|byte| **byte == b'\n')
+        .count();
+    for line in ["refused 14\n", "refused\n", "tolerances 1\n", "\n"] {
+        let said = missing(&stream, line.repeat(count).as_bytes()).expect("a failure");
+        assert!(said.contains("can't answer"), "{said}");
+    }
+}
+
+#[test]
+fn an_unanswered_request_fails() {
+    let stream = requests(5, 1).concat();
+    let said = missing(&stream, &[]).expect("a failure");
+    assert_eq!(said, "only 0 requests are answered");
+}
+
+/// A step back is the row before: the listing of a table that every row passes goes forward.
+#[test]
+fn steps_back() {
+    let table = unassigned(&[(1, 100, 100), (1, 100, 100), (1, 100, 100)]);
+    let mut row = last_row(3);
+    let mut rows = 1;
+    loop {
+        let after = row.clone();
+        step_back(&mut row);
+        if row == after {
+            break;
+        }
+        let mut next = [0; 6];
+        assert_eq!(listing::next_row(&table, &row, &mut next), Ok(true));
+        assert_eq!(next[..], after[..]);
+        rows += 1;
+    }
+    assert_eq!(rows, 36);
+    assert_eq!(row, [1, 2, 3, 1, 1, 1]);
+}
+
+#[test]
+fn drawn_rows_are_well_formed() {
+    let random = &mut Random::new(3);
+    for n in 1..=MOST_TASKS {
+        for _ in 0..100 {
+            let row = any_row(random, n);
+            assert!(listing::Row::from_numbers(n, &row).is_some());
+        }
+    }
+}
