@@ -1,9 +1,9 @@
--- `text::put_next` puts a space, and a number after it.
+-- `text::put_marked` puts a mark, and a number behind it.
 use borrow.Author.Needs.{needs}
 use native.Mathlib.Omega.{arith}
 use Rattle.text.proofs.Putting.{put-after}
-use Rattle.text.proofs.put_next.Statement.{statement}
-use Rattle.text.proofs.put_next.Tie as tie
+use Rattle.text.proofs.put_marked.Statement.{statement}
+use Rattle.text.proofs.put_marked.Tie as tie
 
 put-requires : tie.Need-put-requires
 put-requires c κs = search needs
@@ -17,5 +17,5 @@ same-length c = search needs
 returns : tie.Need-returns
 returns c = put-after (c .before .before .before .before .before .before .put .ensures) (omega arith) (c .before .before .put-decimal .ensures)
 
-pub put-next-spec : {M : Type 1} → statement M
-put-next-spec = tie.close (tie.spec put-requires put-decimal-requires same-length returns)
+pub put-marked-spec : {M : Type 1} → statement M
+put-marked-spec = tie.close (tie.spec put-requires put-decimal-requires same-length returns)
