@@ -33,6 +33,7 @@ use table::*;
 /// The core's calls, by numbers and slices (crates/bench). A table is the bytes of a request's.
 mod core {
     use crate::table::MOST_TASKS;
+    use crate::TASK_COLUMNS;
 
     extern "C" {
         pub fn bench_read(
@@ -55,12 +56,33 @@ mod core {
         pub fn bench_tolerances(table: *const u8, table_len: usize) -> i64;
         pub fn bench_passes(
             n: usize,
-            c: &[u64; MOST_TASKS],
-            t: &[u64; MOST_TASKS],
-            d: &[u64; MOST_TASKS],
+            y: &[u64; TASK_COLUMNS * MOST_TASKS],
             p: &[u64; MOST_TASKS],
             h: &[u64; MOST_TASKS],
         ) -> bool;
+    }
+}
+
+/// Costs, periods, deadlines.
+const TASK_COLUMNS: usize = 3;
+
+/// The numbers that the core's pass test is lent: of the tasks, column after column, and of the assignment.
+struct Lent {
+    n: usize,
+    y: [u64; TASK_COLUMNS * MOST_TASKS],
+    p: [u64; MOST_TASKS],
+    h: [u64; MOST_TASKS],
+}
+
+impl Lent {
+    fn of(tasks: &analysis::Tasks) -> Self {
+        let columns = [tasks.cost, tasks.period, tasks.deadline].concat();
+        Lent {
+            n: tasks.n,
+            y: columns.try_into().expect("all columns"),
+            p: tasks.priority.map(u64::from),
+            h: tasks.threshold.map(u64::from),
+        }
     }
 }
 
@@ -171,17 +193,10 @@ fn analysis_of(n: usize) {
     );
 
     let columns: Vec<analysis::Tasks> = tables.iter().map(analysis::Tasks::of).collect();
-    let wide: Vec<([u64; MOST_TASKS], [u64; MOST_TASKS])> = columns
-        .iter()
-        .map(|y| (y.priority.map(u64::from), y.threshold.map(u64::from)))
-        .collect();
+    let lent: Vec<Lent> = columns.iter().map(Lent::of).collect();
     let passes_core = measure(40, || {
-        columns
-            .iter()
-            .zip(&wide)
-            .map(|(y, (p, h))| unsafe {
-                core::bench_passes(y.n, &y.cost, &y.period, &y.deadline, p, h) as u64
-            })
+        lent.iter()
+            .map(|a| unsafe { core::bench_passes(a.n, &a.y, &a.p, &a.h) as u64 })
             .sum()
     });
     let passes_second = measure(40, || {

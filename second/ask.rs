@@ -39,7 +39,7 @@ fn answer_next(input: &mut impl Read) -> io::Result<Option<String>> {
     }
     let [kind, high, low] = head;
     let mut body = vec![0; u16::from_be_bytes([high, low]) as usize];
-    if body.len() > LONGEST_BODY || !filled(input, &mut body)? {
+    if body.len() > longest_body(kind) || !filled(input, &mut body)? {
         return Ok(None);
     }
     Ok(answer(kind, Body(&body)))

@@ -31,6 +31,9 @@ pub const CALLS: [(&str, &[u8]); 11] = [
     ("name", &[9, 13]),
 ];
 
+/// A kind that stays unknown, whatever calls come: a request of it ends the stored stream.
+pub const NO_KIND: u8 = 255;
+
 const PLATE: Plate = Plate {
     cabinet: 70_002,
     line: 12,
@@ -76,7 +79,7 @@ impl Case {
 /// The stream of all requests. The last one is a bad request, which ends it.
 pub fn stream() -> Vec<u8> {
     let mut stream: Vec<u8> = all().iter().flat_map(Case::request).collect();
-    stream.extend([12, 0, 0]);
+    stream.extend(request(NO_KIND, &[]));
     stream
 }
 
@@ -776,7 +779,8 @@ pub fn refusals() -> String {
             case.what
         );
     }
-    let _ = writeln!(text, "| {} | | `bad request` | kind 12 |", cases.len() + 1);
+    let last = cases.len() + 1;
+    let _ = writeln!(text, "| {last} | | `bad request` | kind {NO_KIND} |");
     text
 }
 
@@ -826,15 +830,15 @@ fn ask_streams() -> Vec<(String, Vec<u8>)> {
     *count.last_mut().expect("a count") = 1;
     let longest = name_body(0, &[b'x'; 4090], &[]);
     let too_long = name_body(0, &[b'x'; 4091], &[]);
+    let no_kind = format!("kind {NO_KIND}");
     let mut list = vec![
         ("empty".to_string(), vec![]),
         ("one".to_string(), good.clone()),
     ];
     for (name, tail) in [
-        ("kind 0", vec![0, 0, 0]),
-        ("kind 12", vec![12, 0, 0]),
-        ("kind 255", vec![255, 0, 0]),
-        ("body empty", vec![3, 0, 0]),
+        ("kind 0", request(0, &[])),
+        (&no_kind, request(NO_KIND, &[])),
+        ("body empty", request(3, &[])),
         ("head of 1", vec![3]),
         ("head of 2", vec![3, 1]),
         ("body cut", good[..good.len() - 1].to_vec()),
@@ -842,7 +846,7 @@ fn ask_streams() -> Vec<(String, Vec<u8>)> {
         ("count too large", request(11, &count)),
         ("body longest", request(11, &longest)),
         ("body too long", request(11, &too_long)),
-        ("bad before good", [&[0, 0, 0][..], &good].concat()),
+        ("bad before good", [request(0, &[]), good.clone()].concat()),
     ] {
         list.push((name.to_string(), [&good[..], &tail].concat()));
     }

@@ -31,7 +31,10 @@ pub fn stream(seed: u64, count: u64, out: &mut impl FnMut(&[u8])) {
 }
 
 fn put_request(kind: u8, body: &[u8], out: &mut impl FnMut(&[u8])) {
-    assert!(body.len() <= LONGEST_BODY, "a body that no request holds");
+    assert!(
+        body.len() <= longest_body(kind),
+        "a body that no request holds"
+    );
     let mut request = vec![kind];
     request.extend((body.len() as u16).to_be_bytes());
     request.extend(body);

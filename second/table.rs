@@ -12,6 +12,12 @@ pub const MOST_CABINET: u32 = (1 << 24) - 1;
 /// The longest body of a request (docs/ASK.md).
 pub const LONGEST_BODY: usize = 4096;
 
+/// The longest body of a request of this kind. All kinds have the one limit; one that is to have
+/// another gets it here.
+pub fn longest_body(_kind: u8) -> usize {
+    LONGEST_BODY
+}
+
 /// Where a task's regions stand (document 01, "The file, bit by bit": 0 own, 1 catalogue).
 #[derive(Clone, Copy, Debug, Default, PartialEq, Eq)]
 pub enum Source {

@@ -1,6 +1,7 @@
 //! The ask protocol: each kind's line, and requests that break the page.
 
 use super::*;
+use crate::cases::NO_KIND;
 
 /// A body built piece by piece.
 #[derive(Clone, Default)]
@@ -216,8 +217,10 @@ fn bad_requests() {
     }
     assert_eq!(answer(3, start().table(&table).two(0)), "bad request");
     assert_eq!(answer(3, start()), "bad request");
-    assert_eq!(answer(0, start()), "bad request");
-    assert_eq!(answer(12, start()), "bad request");
+    for kind in [0, NO_KIND] {
+        assert_eq!(answer(kind, start()), "bad request");
+        assert_eq!(answer(kind, start().table(&table)), "bad request");
+    }
     // A count that the body does not hold.
     assert_eq!(
         answer(11, start().two(0).bytes(b"gate").two(1)),

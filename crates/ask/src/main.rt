@@ -71,7 +71,7 @@ fn respond_next(buf: &mut [u8], words: &mut [u32], bytes: &mut [u8]) -> bool {
         return bad(buf);
     }
     let length = request::two_at(&head, 1);
-    if LONGEST_BODY < length {
+    if request::longest_body(head[0]) < length {
         return bad(buf);
     }
     let mut body = [0u8; LONGEST_BODY];

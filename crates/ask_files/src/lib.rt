@@ -1,6 +1,7 @@
 // Kinds 1 and 2: reading and writing a file.
 ghost use Prim.Native.Nat.{_≤_};
 ghost use lib.ListN.{length};
+ghost use Rattle.paper.specs.Numbers.{mostTasks};
 use paper::MOST_TASKS;
 use paper::Outcome;
 use paper::ReadAnswer;
@@ -42,11 +43,12 @@ fn put_record(buf: &mut [u8], at: usize, r: Record) -> usize
 
 fn put_records(buf: &mut [u8], at: usize, rs: [Record; MOST_TASKS], n: usize) -> usize
     requires { ⌜ at ≤ length (now buf) ⌝ }
+    requires { ⌜ n ≤ mostTasks ⌝ }
     ensures { λ r. ⌜ r ≤ length (now (buf .entry)) ⌝ }
 {
     let mut end = at;
     let mut k: usize = 0;
-    while k < MOST_TASKS && k < n {
+    while k < n {
         let r = rs[k];
         end = put_record(buf, end, r);
         k += 1;
@@ -60,7 +62,7 @@ fn put_table(buf: &mut [u8], t: Table) -> usize
     let n = t.n;
     let rs = t.records;
     let counted = say::count(buf, 0, b"table", n as u64);
-    put_records(buf, counted, rs, n)
+    put_records(buf, counted, rs, fronts::smaller(n, MOST_TASKS))
 }
 
 fn put_read(buf: &mut [u8], answer: ReadAnswer) -> usize

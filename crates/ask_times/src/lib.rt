@@ -1,6 +1,7 @@
 // Kinds 3 to 6: response times, tolerances, lengths and the region check.
 ghost use Prim.Native.Nat.{_≤_};
 ghost use lib.ListN.{length};
+ghost use Rattle.paper.specs.Numbers.{mostTasks};
 use paper::FitAnswer;
 use paper::MOST_TASKS;
 use paper::Outcome;
@@ -22,11 +23,12 @@ fn put_time(buf: &mut [u8], at: usize, time: Time) -> usize
 
 fn put_times(buf: &mut [u8], at: usize, times: [Response; MOST_TASKS], n: usize) -> usize
     requires { ⌜ at ≤ length (now buf) ⌝ }
+    requires { ⌜ n ≤ mostTasks ⌝ }
     ensures { λ r. ⌜ r ≤ length (now (buf .entry)) ⌝ }
 {
     let mut end = at;
     let mut k: usize = 0;
-    while k < MOST_TASKS && k < n {
+    while k < n {
         let response = times[k];
         let time = response.time;
         end = put_time(buf, end, time);
@@ -39,7 +41,7 @@ fn put_responses(buf: &mut [u8], times: [Response; MOST_TASKS], n: usize) -> usi
     ensures { λ r. ⌜ r ≤ length (now (buf .entry)) ⌝ }
 {
     let named = say::word(buf, 0, b"times");
-    put_times(buf, named, times, n)
+    put_times(buf, named, times, fronts::smaller(n, MOST_TASKS))
 }
 
 pub fn response_times(buf: &mut [u8], body: &[u8]) -> usize

@@ -3,7 +3,9 @@
 // Only those programs link this crate: `bench_passes` has a `requires`, which nothing checks on the other side.
 ghost use Prim.Native.Nat.{_≤_};
 ghost use Rattle.paper.specs.Numbers.{horizon};
-ghost use Rattle.columns.specs.Columns.{Fair};
+ghost use Rattle.columns.specs.Columns.{tasksBy, assignedBy, Ranged, Placed};
+use columns::Numbers;
+use columns::Tasks;
 use paper::Cabinet;
 use paper::FitAnswer;
 use paper::HORIZON;
@@ -140,15 +142,8 @@ pub extern "C" fn bench_name(name: u32, list: &[u8]) -> usize {
 }
 
 #[no_mangle]
-pub extern "C" fn bench_passes(
-    n: usize,
-    c: &[u64; MOST_TASKS],
-    t: &[u64; MOST_TASKS],
-    d: &[u64; MOST_TASKS],
-    p: &[u64; MOST_TASKS],
-    h: &[u64; MOST_TASKS],
-) -> bool
-    requires { ⌜ Fair n (now c) (now t) (now d) (now p) (now h) ⌝ }
+pub extern "C" fn bench_passes(n: usize, y: &Tasks, p: &Numbers, h: &Numbers) -> bool
+    requires { ⌜ Ranged (tasksBy n (now y)) × Placed n (assignedBy (now p) (now h)) ⌝ }
 {
-    response::passes(n, c, t, d, p, h)
+    response::passes(n, y, p, h)
 }

@@ -15,18 +15,37 @@ use Rattle.bits.specs.Fields.{Bytes, withBits}
 use Rattle.bits.proofs.Number.{with-at, with-other, with-lt, bits-none, bits-more}
 use Rattle.bits.proofs.Field.{field-same}
 
--- One bit
+-- t is s with other bits, if any, from bit `from` up to bit `to` only
+pub record Only (s t : List ℕ) (from to : ℕ) : Type 0 where
+  pub size : length t ≡ length s
+  pub bytes : Bytes s → Bytes t
+  pub stays : (q : ℕ) → (q < from) ⊎ (to ≤ q) → bitAt t q ≡ bitAt s q
 
-pub bit-length : (s : List ℕ) (p b : ℕ) → length (putBit s p b) ≡ length s
-unfolding putBit
-bit-length s p b = length-set s _ _
+pub only-none : {s : List ℕ} {from to : ℕ} → Only s s from to
+only-none = record { size = refl; bytes = λ f. f; stays = λ q o. refl }
+
+-- one change after the other
+pub only-both : {s t u : List ℕ} {a b c d from to : ℕ} → (from ≤ a) × (b ≤ to) × (from ≤ c) × (d ≤ to) → Only s t a b → Only t u c d → Only s u from to
+only-both h x y = record {
+  size = y .size ∙ x .size;
+  bytes = λ f. y .bytes (x .bytes f);
+  stays = λ q o.
+      y .stays q (⊎-elim (λ l. inl (omega arith)) (λ l. inr (omega arith)) o)
+      ∙ x .stays q (⊎-elim (λ l. inl (omega arith)) (λ l. inr (omega arith)) o);
+}
+
+-- the fields elsewhere stay
+pub only-field : {s t : List ℕ} {from to : ℕ} (at w : ℕ) → Only s t from to → (at + w ≤ from) ⊎ (to ≤ at) → field t at w ≡ field s at w
+only-field {s} {t} at w x o = field-same t s at w (λ q a b. x .stays q (⊎-elim (λ l. inl (omega arith)) (λ l. inr (omega arith)) o))
+
+-- One bit
 
 -- a bit past the end changes nothing
 bit-out : (s : List ℕ) (p b : ℕ) → length s ≤ p / 8 → putBit s p b ≡ s
 unfolding putBit
 bit-out s p b h = set-out s (p / 8) _ h
 
-pub bit-got : (s : List ℕ) (p b : ℕ) → p < length s * 8 → b < 2 → bitAt (putBit s p b) p ≡ b
+bit-got : (s : List ℕ) (p b : ℕ) → p < length s * 8 → b < 2 → bitAt (putBit s p b) p ≡ b
 unfolding putBit bitAt
 bit-got s p b h hb =
     let l : p / 8 < length s = omega arith in
@@ -40,7 +59,7 @@ bit-inside s p q b l hb n =
     (λ e. rw (e, getD-set-same s (p / 8) y 0 l) (with-other (getD s (p / 8) 0) (7 - q % 8) (7 - p % 8) b (λ f. n (omega arith)) hb))
     (λ m. rw (getD-set-other s (p / 8) (q / 8) y 0 m))
 
-pub bit-other : (s : List ℕ) (p q b : ℕ) → b < 2 → q ≢ p → bitAt (putBit s p b) q ≡ bitAt s q
+bit-other : (s : List ℕ) (p q b : ℕ) → b < 2 → q ≢ p → bitAt (putBit s p b) q ≡ bitAt s q
 bit-other s p q b hb n =
     by-cases (decLt (p / 8) (length s))
     (λ (l : p / 8 < length s). bit-inside s p q b l hb n)
@@ -57,31 +76,21 @@ bit-bytes s p b hb f i =
     (λ m. rw (getD-set-other s (p / 8) i y 0 m) (f i)))
     (λ l. rw (set-out s (p / 8) y (omega arith)) (f i))
 
+bit-only : (s : List ℕ) (p b : ℕ) → b < 2 → Only s (putBit s p b) p (suc p)
+unfolding putBit
+bit-only s p b h = record {
+  size = length-set s _ _;
+  bytes = bit-bytes s p b h;
+  stays = λ q o. bit-other s p q b h (⊎-elim (λ l e. omega arith) (λ l e. omega arith) o);
+}
+
 -- A field
 
-pub put-length : (s : List ℕ) (at w v : ℕ) → length (putField s at w v) ≡ length s
+pub put-only : (s : List ℕ) (at w v : ℕ) → Only s (putField s at w v) at (at + w)
 unfolding putField
-put-length s at zero v = refl
-put-length s at (suc w) v = put-length (putBit s (at + w) (v % 2)) at w (v / 2) ∙ bit-length s (at + w) (v % 2)
-
-pub put-bytes : (s : List ℕ) (at w v : ℕ) → Bytes s → Bytes (putField s at w v)
-unfolding putField
-put-bytes s at zero v f = f
-put-bytes s at (suc w) v f = put-bytes (putBit s (at + w) (v % 2)) at w (v / 2) (bit-bytes s (at + w) (v % 2) (omega arith) f)
-
--- the bits outside stay
-pub put-bit-other : (s : List ℕ) (at w v q : ℕ) → (q < at) ⊎ (at + w ≤ q) → bitAt (putField s at w v) q ≡ bitAt s q
-unfolding putField
-put-bit-other s at zero v q o = refl
-put-bit-other s at (suc w) v q o =
-    put-bit-other (putBit s (at + w) (v % 2)) at w (v / 2) q (⊎-elim (λ a. inl a) (λ b. inr (omega arith)) o)
-    ∙ bit-other s (at + w) q (v % 2) (omega arith) (⊎-elim (λ a e. omega arith) (λ b e. omega arith) o)
-
--- the fields elsewhere stay
-pub put-other : (s : List ℕ) (at w v at' w' : ℕ) → (at' + w' ≤ at) ⊎ (at + w ≤ at') → field (putField s at w v) at' w' ≡ field s at' w'
-put-other s at w v at' w' o =
-    field-same (putField s at w v) s at' w'
-    (λ q a b. put-bit-other s at w v q (⊎-elim (λ l. inl (omega arith)) (λ l. inr (omega arith)) o))
+put-only s at zero v = only-none
+put-only s at (suc w) v =
+    only-both (omega arith) (bit-only s (at + w) (v % 2) (omega arith)) (put-only (putBit s (at + w) (v % 2)) at w (v / 2))
 
 -- the bytes before it stay
 pub put-take : (s : List ℕ) (n at w v : ℕ) → n * 8 ≤ at → take n (putField s at w v) ≡ take n s
@@ -96,11 +105,11 @@ unfolding putField field
 put-got s at zero v h l = omega arith
 put-got s at (suc w) v h l =
     let t = putBit s (at + w) (v % 2) in
-    let k : at + w ≤ length t * 8 = rw bit-length (omega arith) in
+    let k : at + w ≤ length t * 8 = rw (bit-only s (at + w) (v % 2) (omega arith) .size) (omega arith) in
     let m : v < 2 ^ w * 2 = rw pow-suc at l in
     let a : field (putField t at w (v / 2)) at w ≡ v / 2 = put-got t at w (v / 2) k (omega arith) in
     let b : bitAt (putField t at w (v / 2)) (at + w) ≡ v % 2 =
-    put-bit-other t at w (v / 2) (at + w) (inr (omega arith)) ∙ bit-got s (at + w) (v % 2) (omega arith) (omega arith) in
+    put-only t at w (v / 2) .stays (at + w) (inr (omega arith)) ∙ bit-got s (at + w) (v % 2) (omega arith) (omega arith) in
     rw (a, b) (omega arith)
 
 -- a field put in two parts, the lower first

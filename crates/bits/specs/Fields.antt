@@ -3,17 +3,11 @@ use Prim.{Unit}
 use Prim.Native.Nat.{ℕ, _+_, _*_, _/_, _%_, _^_, _<_}
 use mathlib.Core.List.{List, [], _∷_}
 use lib.ListN.{getD}
-use Rattle.paper.specs.Bits.{field}
 
 -- how many bits the widths ws take
 abbrev pub total : List ℕ → ℕ
 total [] = 0
 total (w ∷ ws) = w + total ws
-
--- the fields of the widths ws, one after the other from bit `at` on
-abbrev pub fieldsAt : List ℕ → ℕ → List ℕ → List ℕ
-fieldsAt s at [] = []
-fieldsAt s at (w ∷ ws) = field s at w ∷ fieldsAt s (at + w) ws
 
 -- as many values as widths, and each fits its width
 abbrev pub AllFit : List ℕ → List ℕ → Type 0

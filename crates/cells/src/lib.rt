@@ -83,14 +83,6 @@ pub fn put_right(buf: &mut [u8], at: usize, word: &[u8], width: usize) -> usize
     say::word(buf, start, word)
 }
 
-fn put_minus(buf: &mut [u8], at: usize, x: u64) -> usize
-    requires { ⌜ at ≤ length (now buf) ⌝ }
-    ensures { λ r. ⌜ r ≤ length (now (buf .entry)) ⌝ }
-{
-    let minus = say::word(buf, at, b"-");
-    say::decimal(buf, minus, x)
-}
-
 // A cell at the right end of a width.
 pub fn put_cell(buf: &mut [u8], at: usize, cell: Cell, width: usize) -> usize
     requires { ⌜ at ≤ length (now buf) ⌝ }
@@ -100,7 +92,7 @@ pub fn put_cell(buf: &mut [u8], at: usize, cell: Cell, width: usize) -> usize
     match cell {
         Cell::Dash => say::word(buf, start, b"-"),
         Cell::Number(x) => say::decimal(buf, start, x),
-        Cell::Minus(x) => put_minus(buf, start, x),
+        Cell::Minus(x) => say::marked(buf, start, b'-', x),
         Cell::Beyond => say::word(buf, start, b"beyond"),
         Cell::Yes => say::word(buf, start, b"yes"),
         Cell::No => say::word(buf, start, b"no"),

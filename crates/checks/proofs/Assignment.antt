@@ -8,7 +8,7 @@ use Rattle.paper.specs.Numbers.{mostTasks, eachOnce, Assignment, thresholdsHold
 use Rattle.paper.specs.declared.Record.{Record}
 use Rattle.columns.specs.Columns.{columnOf, assignedBy}
 use Rattle.columns.specs.declared.Column.the-variants.{Priority, Threshold}
-use Rattle.columns.proofs.Fair.{assigned-by}
+use Rattle.columns.proofs.Tables.{assigned-by}
 
 module _ (rs : List Record) (n : ℕ) {ps hs : List ℕ} (e : ps ≡ columnOf rs Priority) (f : hs ≡ columnOf rs Threshold) (l : length rs ≡ mostTasks) where
   same : assignedBy ps hs ≡ assigned rs

@@ -1,4 +1,3 @@
 pub mod Asks
 pub mod Assignment
-pub mod Regions
 pub mod Meaning

@@ -1,19 +1,18 @@
--- Laws of the work that a column of tasks brings: it rises with x, and is bounded.
+-- Laws of the work that tasks bring: it rises with x, and is bounded.
 use Prim.Native.Nat.{ℕ, _+_, _-_, _*_, _≤_, _<_}
 use mathlib.Core.Path.{_≡_, refl}
 use mathlib.Core.Bool.{cond}
-use mathlib.Core.List.{List}
 use native.Mathlib.Omega.{arith}
 use native.Mathlib.Nat.{le-trans, mul-le-mul, mul-le-mul-right}
 use lib.Dec.{ltb}
-use lib.ListN.{getD}
 use Rattle.paper.specs.Vocabulary.{sumTo, ceilDiv}
-use Rattle.paper.specs.Numbers.{mostTasks, mostTicks, horizon}
-use Rattle.paper.specs.Analysis.{before, load}
+use Rattle.paper.specs.Numbers.{mostTasks, mostTicks, horizon, Assignment}
+use Rattle.paper.specs.Analysis.{Tasks, before, load}
 use Rattle.laws.proofs.Least.{Mono}
 use Rattle.laws.proofs.Sums.{sum-bound, part-bound}
 use Rattle.laws.proofs.Arrivals.{ceil-bound, before-le, load-le}
-use Rattle.climb.specs.Work.{timesBy, Ready, work, side, Rises}
+use Rattle.columns.specs.Columns.{Ranged}
+use Rattle.climb.specs.Work.{work, side, Rises}
 use Rattle.climb.specs.declared.Equation.{Equation}
 
 -- the most that one task adds
@@ -21,42 +20,48 @@ abbrev pub mostPart : ℕ
 mostPart = (horizon + 1) * mostTicks
 
 -- what task j adds
-abbrev pub partOf : List ℕ → List ℕ → List ℕ → ℕ → ℕ → ℕ → ℕ
-partOf cs ts ps limit x j = cond (ltb (getD ps j 0) limit) (ceilDiv x (getD ts j 0) * getD cs j 0) 0
+abbrev pub partOf : Tasks → Assignment → ℕ → ℕ → ℕ → ℕ
+partOf y a limit x j = cond (ltb (a .p j) limit) (ceilDiv x (y .t j) * y .c j) 0
+
+-- by its own numbers
+pub part-is : (y : Tasks) (a : Assignment) (limit x j : ℕ) {c t r : ℕ} → c ≡ y .c j → t ≡ y .t j
+    → r ≡ cond (ltb (a .p j) limit) (ceilDiv x t * c) 0 → r ≡ partOf y a limit x j
+part-is y a limit x j ec et e = rw (← ec, ← et) e
 
 pub jobs-bound : (x t c : ℕ) → x ≤ horizon + 1 → 1 ≤ t → c ≤ mostTicks → ceilDiv x t * c ≤ mostPart
 jobs-bound x t c hx ht hc = mul-le-mul {n₂ = horizon + 1} {m₂ = mostTicks} (le-trans (ceil-bound t x ht) hx) hc
 
-module _ (n : ℕ) (cs ts ps : List ℕ) (limit : ℕ) where
-  pub work-is : (x : ℕ) → work (timesBy n cs ts) ps limit x ≡ sumTo n (partOf cs ts ps limit x)
-  unfolding work load before
-  work-is x = refl
+module _ (y : Tasks) (a : Assignment) where
+  module _ (limit : ℕ) where
+    pub work-is : (x : ℕ) → work y a limit x ≡ sumTo (y .n) (partOf y a limit x)
+    unfolding work load before
+    work-is x = refl
 
-  pub work-le : Mono (work (timesBy n cs ts) ps limit)
-  unfolding work
-  work-le x z h = load-le (timesBy n cs ts) _ _ _ (λ j l. before-le (timesBy n cs ts) j x z h)
+    pub work-le : Mono (work y a limit)
+    unfolding work
+    work-le x z h = load-le y _ _ _ (λ j l. before-le y j x z h)
 
-  module _ (r : Ready n cs ts ps) (x : ℕ) (h : x ≤ horizon + 1) where
-    pub part-of-bound : (j : ℕ) → j < n → partOf cs ts ps limit x j ≤ mostPart
-    part-of-bound j l = part-bound (ltb (getD ps j 0) limit) (jobs-bound x _ _ h (r .periods .above j l) (r .costs .below j l))
+    module _ (r : Ranged y) (x : ℕ) (h : x ≤ horizon + 1) where
+      pub part-of-bound : (j : ℕ) → j < y .n → partOf y a limit x j ≤ mostPart
+      part-of-bound j l = part-bound (ltb (a .p j) limit) (jobs-bound x _ _ h (r .periods j l .0) (r .costs j l .1))
 
-    pub sum-of-bound : (j : ℕ) → j ≤ n → sumTo j (partOf cs ts ps limit x) ≤ j * mostPart
-    sum-of-bound j l = sum-bound j mostPart _ (λ k m. part-of-bound k (le-trans m l))
+      pub sum-of-bound : (j : ℕ) → j ≤ y .n → sumTo j (partOf y a limit x) ≤ j * mostPart
+      sum-of-bound j l = sum-bound j mostPart _ (λ k m. part-of-bound k (le-trans m l))
 
-    pub work-bound : work (timesBy n cs ts) ps limit x ≤ mostTasks * mostPart
-    work-bound = rw (work-is x) (le-trans (sum-of-bound n (omega arith)) (mul-le-mul-right mostPart (r .few)))
+      pub work-bound : work y a limit x ≤ mostTasks * mostPart
+      work-bound = rw (work-is x) (le-trans (sum-of-bound (y .n) (omega arith)) (mul-le-mul-right mostPart (r .few)))
 
-module _ (n : ℕ) (cs ts ps : List ℕ) (e : Equation) where
-  pub side-le : Mono (side (timesBy n cs ts) ps e)
-  unfolding side
-  side-le x z h = omega (arith, work-le n cs ts ps (e .limit) (x + e .edge) (z + e .edge) (omega arith))
+  module _ (e : Equation) where
+    pub side-le : Mono (side y a e)
+    unfolding side
+    side-le x z h = omega (arith, work-le (e .limit) (x + e .edge) (z + e .edge) (omega arith))
 
-  -- what holds where the climb starts holds further up
-  pub rises-on : (x z : ℕ) → x ≤ z → z ≤ side (timesBy n cs ts) ps e z → Rises (timesBy n cs ts) ps e x → Rises (timesBy n cs ts) ps e z
-  rises-on x z h up r =
-      record {
-        base = r .base;
-        edge = r .edge;
-        off = omega (arith, r .off, work-le n cs ts ps (e .limit) (x + e .edge) (z + e .edge) (omega arith));
-        rise = up;
-      }
+    -- what holds where the climb starts holds further up
+    pub rises-on : (x z : ℕ) → x ≤ z → z ≤ side y a e z → Rises y a e x → Rises y a e z
+    rises-on x z h up r =
+        record {
+          base = r .base;
+          edge = r .edge;
+          off = omega (arith, r .off, work-le (e .limit) (x + e .edge) (z + e .edge) (omega arith));
+          rise = up;
+        }

@@ -1,4 +1,6 @@
 // The least solution of the one equation that all of the analysis solves, over columns of numbers.
+use columns::Numbers;
+use columns::Tasks;
 use paper::Time;
 ghost use mathlib.Core.Path.{_≡_};
 ghost use mathlib.Core.Bool.{cond};
@@ -6,10 +8,8 @@ ghost use Prim.Native.Nat.{_+_, _*_, _≤_};
 ghost use lib.Dec.{ltb};
 ghost use Rattle.paper.specs.Vocabulary.{ceilDiv};
 ghost use Rattle.paper.specs.Numbers.{mostTicks, horizon};
-ghost use Rattle.climb.specs.Work.{timesBy, Ready, work, side, solution, Rises};
-
-// One number for each task.
-pub type Numbers = [u64; paper::MOST_TASKS];
+ghost use Rattle.columns.specs.Columns.{tasksBy, rankedBy, Ranged};
+ghost use Rattle.climb.specs.Work.{work, side, solution, Rises};
 
 // x = base + work(limit, x + edge) - off. L, S and F are the least x of such an equation.
 pub struct Equation {
@@ -36,38 +36,38 @@ fn part(x: u64, limit: u64, c: u64, t: u64, p: u64) -> u64
     if p < limit { arrived(x, t) * c } else { 0 }
 }
 
-pub fn work(n: usize, c: &Numbers, t: &Numbers, p: &Numbers, limit: u64, x: u64) -> u64
-    requires { ⌜ Ready n (now c) (now t) (now p) × (x ≤ horizon + 1) ⌝ }
-    ensures { λ r. ⌜ r ≡ work (timesBy n (now (c .entry)) (now (t .entry))) (now (p .entry)) limit x ⌝ }
+pub fn work(n: usize, y: &Tasks, p: &Numbers, limit: u64, x: u64) -> u64
+    requires { ⌜ Ranged (tasksBy n (now y)) × (x ≤ horizon + 1) ⌝ }
+    ensures { λ r. ⌜ r ≡ work (tasksBy n (now (y .entry))) (rankedBy (now (p .entry))) limit x ⌝ }
 {
     let mut total = 0;
     let mut j = 0;
     while j < n {
-        total = total + part(x, limit, c[j], t[j], p[j]);
+        total = total + part(x, limit, columns::cost(y, j), columns::period(y, j), p[j]);
         j = j + 1;
     }
     total
 }
 
 // The right side of an equation, at x.
-fn side(n: usize, c: &Numbers, t: &Numbers, p: &Numbers, e: Equation, x: u64) -> u64
-    requires { ⌜ Ready n (now c) (now t) (now p) × (x ≤ horizon) × Rises (timesBy n (now c) (now t)) (now p) e x ⌝ }
-    ensures { λ r. ⌜ r ≡ side (timesBy n (now (c .entry)) (now (t .entry))) (now (p .entry)) e x ⌝ }
+fn side(n: usize, y: &Tasks, p: &Numbers, e: Equation, x: u64) -> u64
+    requires { ⌜ Ranged (tasksBy n (now y)) × (x ≤ horizon) × Rises (tasksBy n (now y)) (rankedBy (now p)) e x ⌝ }
+    ensures { λ r. ⌜ r ≡ side (tasksBy n (now (y .entry))) (rankedBy (now (p .entry))) e x ⌝ }
 {
-    e.base + work(n, c, t, p, e.limit, x + e.edge) - e.off
+    e.base + work(n, y, p, e.limit, x + e.edge) - e.off
 }
 
 // The least x from `from` to the horizon that solves the equation.
-pub fn solve(n: usize, c: &Numbers, t: &Numbers, p: &Numbers, e: Equation, from: u64) -> Time
-    requires { ⌜ Ready n (now c) (now t) (now p) × Rises (timesBy n (now c) (now t)) (now p) e from ⌝ }
-    ensures { λ r. ⌜ r ≡ solution (timesBy n (now (c .entry)) (now (t .entry))) (now (p .entry)) e from ⌝ }
+pub fn solve(n: usize, y: &Tasks, p: &Numbers, e: Equation, from: u64) -> Time
+    requires { ⌜ Ranged (tasksBy n (now y)) × Rises (tasksBy n (now y)) (rankedBy (now p)) e from ⌝ }
+    ensures { λ r. ⌜ r ≡ solution (tasksBy n (now (y .entry))) (rankedBy (now (p .entry))) e from ⌝ }
 {
     if from > paper::HORIZON {
         return Time::Beyond;
     }
     let mut x = from;
     loop {
-        let next = side(n, c, t, p, e, x);
+        let next = side(n, y, p, e, x);
         if next == x {
             return Time::At(x);
         }

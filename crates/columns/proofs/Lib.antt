@@ -1,1 +1,1 @@
-pub mod Fair
+pub mod Tables

@@ -1,8 +1,9 @@
 -- A table unpacked into columns of numbers, which is what the analysis runs on.
-use Prim.Native.Nat.{ℕ, _<_, _≤_}
-use mathlib.Core.Path.{_≡_}
-use mathlib.Core.List.{List}
-use lib.ListN.{getD, length}
+use Prim.Native.Nat.{ℕ, zero, suc, _+_, _-_, _*_, _/_, _%_, _<_, _≤_}
+use mathlib.Core.Bool.{cond}
+use mathlib.Core.List.{List, [], _++_}
+use lib.Dec.{ltb}
+use lib.ListN.{getD, replicate}
 use Rattle.paper.specs.Vocabulary.{listTo}
 use Rattle.paper.specs.Numbers.{mostTasks, mostTicks, rec, Assignment}
 use Rattle.paper.specs.Analysis.{Tasks}
@@ -22,25 +23,47 @@ valueIn Threshold r = r .threshold
 abbrev pub columnOf : List Record → Column → List ℕ
 columnOf rs which = listTo mostTasks (λ j. valueIn which (rec rs j))
 
--- tasks whose costs, periods and deadlines stand in columns
-abbrev pub tasksBy : ℕ → List ℕ → List ℕ → List ℕ → Tasks
-tasksBy n cs ts ds = record { n = n; c = λ j. getD cs j 0; t = λ j. getD ts j 0; d = λ j. getD ds j 0 }
+-- the columns of the tasks in one list, one after the other
+abbrev pub taskColumns : ℕ
+taskColumns = 3
+
+abbrev pub columnAt : ℕ → Column
+columnAt zero = Cost
+columnAt (suc zero) = Period
+columnAt (suc (suc m)) = Deadline
+
+abbrev pub columnsOf : List Record → List ℕ
+columnsOf rs = listTo (taskColumns * mostTasks) (λ j. valueIn (columnAt (j / mostTasks)) (rec rs (j % mostTasks)))
+
+-- the first j of these numbers, and 0 for the others still
+abbrev pub filledTo : List Record → ℕ → List ℕ
+filledTo rs j =
+    listTo j (λ j. valueIn (columnAt (j / mostTasks)) (rec rs (j % mostTasks))) ++ replicate (taskColumns * mostTasks - j) 0
+
+-- the number of task k in column m; 0 where there is no such task, as a record that isn't there has it
+unfoldable pub numberAt : ℕ → List ℕ → ℕ → ℕ
+numberAt m ys k = cond (ltb k mostTasks) (getD ys (m * mostTasks + k) 0) 0
+
+-- the tasks whose numbers stand in such a list
+abbrev pub tasksBy : ℕ → List ℕ → Tasks
+tasksBy n ys = record { n = n; c = numberAt 0 ys; t = numberAt 1 ys; d = numberAt 2 ys }
 
 -- an assignment whose priorities and thresholds stand in columns
 abbrev pub assignedBy : List ℕ → List ℕ → Assignment
 assignedBy ps hs = record { p = λ j. getD ps j 0; h = λ j. getD hs j 0 }
 
--- the first n numbers of a column lie from `low` to `high`
-pub record Between (low high n : ℕ) (xs : List ℕ) : Type 0 where
-  pub size : length xs ≡ mostTasks
-  pub above : (j : ℕ) → j < n → low ≤ getD xs j 0
-  pub below : (j : ℕ) → j < n → getD xs j 0 ≤ high
+-- by its priorities alone, where thresholds play no part
+abbrev pub rankedBy : List ℕ → Assignment
+rankedBy ps = assignedBy ps []
 
--- columns on which the analysis may run: in range, and priorities and thresholds small enough to count with
-pub record Fair (n : ℕ) (cs ts ds ps hs : List ℕ) : Type 0 where
-  pub few : n ≤ mostTasks
-  pub costs : Between 1 mostTicks n cs
-  pub periods : Between 1 mostTicks n ts
-  pub deadlines : Between 1 mostTicks n ds
-  pub priorities : Between 1 mostTasks n ps
-  pub thresholds : Between 1 mostTasks n hs
+-- tasks on which the analysis may run: as few as a table holds, and each number in range
+pub record Ranged (y : Tasks) : Type 0 where
+  pub few : y .n ≤ mostTasks
+  pub costs : (k : ℕ) → k < y .n → (1 ≤ y .c k) × (y .c k ≤ mostTicks)
+  pub periods : (k : ℕ) → k < y .n → (1 ≤ y .t k) × (y .t k ≤ mostTicks)
+  pub deadlines : (k : ℕ) → k < y .n → (1 ≤ y .d k) × (y .d k ≤ mostTicks)
+
+-- an assignment on which it may run: priorities and thresholds from 1 to the most tasks
+pub record Placed (n : ℕ) (a : Assignment) : Type 0 where
+  pub priorities : (k : ℕ) → k < n → (1 ≤ a .p k) × (a .p k ≤ mostTasks)
+  pub thresholds : (k : ℕ) → k < n → (1 ≤ a .h k) × (a .h k ≤ mostTasks)

@@ -2,25 +2,33 @@
 ghost use Prim.Native.Nat.{_≤_};
 ghost use Rattle.fronts.specs.Front.{Front};
 
+// The smaller of two numbers.
+pub fn smaller(a: usize, b: usize) -> usize
+    ensures { λ r. ⌜ r ≤ a ⌝ }
+    ensures { λ r. ⌜ r ≤ b ⌝ }
+{
+    if a < b { a } else { b }
+}
+
 pub fn of_bytes(s: &[u8], n: usize) -> usize
     ensures { λ r. ⌜ Front r (now (s .entry)) ⌝ }
     ensures { λ r. ⌜ r ≤ n ⌝ }
 {
-    if n < s.len() { n } else { s.len() }
+    smaller(n, s.len())
 }
 
 pub fn of_words(s: &[u32], n: usize) -> usize
     ensures { λ r. ⌜ Front r (now (s .entry)) ⌝ }
     ensures { λ r. ⌜ r ≤ n ⌝ }
 {
-    if n < s.len() { n } else { s.len() }
+    smaller(n, s.len())
 }
 
 pub fn of_ticks(s: &[i64], n: usize) -> usize
     ensures { λ r. ⌜ Front r (now (s .entry)) ⌝ }
     ensures { λ r. ⌜ r ≤ n ⌝ }
 {
-    if n < s.len() { n } else { s.len() }
+    smaller(n, s.len())
 }
 
 // The front filled with one value.

@@ -6,5 +6,4 @@ pub mod Agree
 pub mod Arrivals
 pub mod Order
 pub mod Steps
-pub mod AgreeLengths
 pub mod Fronts

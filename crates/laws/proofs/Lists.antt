@@ -47,22 +47,20 @@ module _ {A : Type 0} where
       → set (listTo i f ++ replicate (N - i) z) i (f i) ≡ listTo (i + 1) f ++ replicate (N - (i + 1)) z
   fill-more N i f z h = rw (list-more i f) (fill N i (listTo i f) z (f i) (list-length i f) h)
 
+  -- the turn of a loop that has stored up to i
+  pub fill-turn : (N i : ℕ) (f : ℕ → A) (z : A) {xs : List A} {a : A} → i < N
+      → xs ≡ listTo i f ++ replicate (N - i) z → a ≡ f i → set xs i a ≡ listTo (i + 1) f ++ replicate (N - (i + 1)) z
+  fill-turn N i f z h e g = rw (e, g) (fill-more N i f z h)
+
   -- the array of a table's records, or of an answer
   pub per-task-none : (f : ℕ → A) (z : A) → replicate mostTasks z ≡ perTask 0 f z
   unfolding perTask listTo
   per-task-none f z = refl
 
-  pub per-task-more : (i : ℕ) (f : ℕ → A) (z : A) → i < mostTasks → set (perTask i f z) i (f i) ≡ perTask (i + 1) f z
-  unfolding perTask
-  per-task-more i f z h = fill-more mostTasks i f z h
-
-  -- the turn of a loop that has stored up to i
   pub per-task-turn : (i : ℕ) (f : ℕ → A) (z : A) {xs : List A} {a : A} → i < mostTasks
       → xs ≡ perTask i f z → a ≡ f i → set xs i a ≡ perTask (i + 1) f z
-  per-task-turn i f z h e g = rw (e, g) (per-task-more i f z h)
-
-  pub per-task-done : (i n : ℕ) (f : ℕ → A) (z : A) {xs : List A} → xs ≡ perTask i f z → i ≡ n → xs ≡ perTask n f z
-  per-task-done i n f z e h = rw (← h) e
+  unfolding perTask
+  per-task-turn i f z h e g = fill-turn mostTasks i f z h e g
 
   -- it is full
   pub per-task-full : (f : ℕ → A) (z : A) → perTask mostTasks f z ≡ listTo mostTasks f

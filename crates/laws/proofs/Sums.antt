@@ -47,9 +47,6 @@ max-more n f = rw add-one
 pub max-turn : (k : ℕ) (f : ℕ → ℕ) {x t : ℕ} → x ≡ maxTo k f → t ≡ f k → max x t ≡ maxTo (k + 1) f
 max-turn k f e g = rw (max-more k f, e, g)
 
-pub max-done : (k n : ℕ) (f : ℕ → ℕ) {x : ℕ} → x ≡ maxTo k f → k ≡ n → x ≡ maxTo n f
-max-done k n f e h = rw (← h) e
-
 pub max-same : (n : ℕ) (f g : ℕ → ℕ) → ((j : ℕ) → j < n → f j ≡ g j) → maxTo n f ≡ maxTo n g
 unfolding maxTo
 max-same zero f g h = refl

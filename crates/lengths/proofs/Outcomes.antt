@@ -1,12 +1,13 @@
 -- From what a stage found to the answer of the call.
 use Prim.Native.Nat.{ℕ, _≤_, _<_}
 use mathlib.Core.Path.{_≡_, sym, ap, _∙_}
-use mathlib.Core.Bool.{Bool, true, false}
+use mathlib.Core.Bool.{Bool}
 use mathlib.Core.List.{List, [], _∷_}
 use borrow.Author.Tests.{lt-ltb, le-ltb}
 use lib.IntN.{ℤ, pos}
 use lib.ListN.{length, replicate}
 use Rattle.paper.specs.Numbers.{mostTasks, perTask, countsInRange, recordsInRange}
+use Rattle.paper.specs.Analysis.{tasksOf}
 use Rattle.paper.specs.Refusals.{firstOf, tolerancesAsks, belowZeroAt}
 use Rattle.paper.specs.Answers.{whenDone, ticksFor, fitFor}
 use Rattle.paper.specs.declared.Table.{Table}
@@ -17,7 +18,10 @@ use Rattle.paper.specs.declared.Outcome.the-variants.{Done, Refused}
 use Rattle.paper.specs.declared.TicksAnswer.{TicksAnswer}
 use Rattle.paper.specs.declared.FitAnswer.the-variants as Fit
 use Rattle.paper.proofs.Asks.{met}
-use Rattle.checks.proofs.Meaning.{few, counts-say, tolerances-done}
+use Rattle.columns.specs.Columns.{Ranged}
+use Rattle.columns.proofs.Tables.{ranged}
+use Rattle.checks.proofs.Meaning.{counts-say}
+use Rattle.outcomes.proofs.Meaning.{times-ranged, tolerances-done}
 use Rattle.lengths.specs.Stages.{earlyAsks, turnedAway}
 
 pub ticks-refused : {o : Outcome} (r : Refusal) (n : ℕ) (f : ℕ → ℤ) → o ≡ Refused r → turnedAway r ≡ ticksFor o n f
@@ -35,15 +39,14 @@ pub below-done : {low : ℕ} (l : ℕ) → l ≡ low → l ≤ 0 → firstOf (be
 below-done l e h = rw (← e, le-ltb 0 l h)
 
 -- where the tolerances ask nothing more, the walk may run
-pub in-range : (t : Table) → firstOf (tolerancesAsks t) ≡ Done → (t .n ≤ mostTasks) × (recordsInRange (t .records) (t .n) ≡ true)
-in-range t e = let f = tolerances-done t e .times in (few (t .n) (f .counts), f .ranges)
+pub in-range : (t : Table) → firstOf (tolerancesAsks t) ≡ Done → Ranged (tasksOf (t .records) (t .n))
+in-range t e = times-ranged t (tolerances-done t e .times)
 
 -- and where the region check asks nothing more before them
-pub early-done : (t : Table) (own catalogue : List ℕ) → firstOf (earlyAsks t own catalogue) ≡ Done
-    → (t .n ≤ mostTasks) × (recordsInRange (t .records) (t .n) ≡ true)
+pub early-done : (t : Table) (own catalogue : List ℕ) → firstOf (earlyAsks t own catalogue) ≡ Done → Ranged (tasksOf (t .records) (t .n))
 early-done t own catalogue e =
     let c = met (countsInRange (t .n) (length own)) _ _ e in
-    (counts-say (t .n) (length own) (c .0) .tasks, met (recordsInRange (t .records) (t .n)) _ _ (c .1) .0)
+    ranged (t .records) (t .n) (counts-say (t .n) (length own) (c .0) .tasks) (met (recordsInRange (t .records) (t .n)) _ _ (c .1) .0)
 
 -- the parts of an answer
 module _ {a : TicksAnswer} {o : Outcome} (n : ℕ) (f : ℕ → ℤ) (e : a ≡ ticksFor o n f) where
@@ -59,8 +62,5 @@ module _ {a : TicksAnswer} {o : Outcome} (n : ℕ) (f : ℕ → ℤ) (e : a ≡ 
 pub fit-refused : {o : Outcome} (r : Refusal) (fits : Bool) → o ≡ Refused r → Fit.Refused r ≡ fitFor o fits
 fit-refused r fits e = ap (λ o. fitFor o fits) (sym e)
 
-pub fit-yes : {o : Outcome} {b fits : Bool} → o ≡ Done → b ≡ fits → b ≡ true → Fit.Fits ≡ fitFor o fits
-fit-yes e f h = rw (e, ← f, h)
-
-pub fit-no : {o : Outcome} {b fits : Bool} → o ≡ Done → b ≡ fits → b ≡ false → Fit.Unfit ≡ fitFor o fits
-fit-no e f h = rw (e, ← f, h)
+pub fit-done : {o : Outcome} {b fits : Bool} → o ≡ Done → b ≡ fits → fitFor Done b ≡ fitFor o fits
+fit-done e f = rw (e, f)

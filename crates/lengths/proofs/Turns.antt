@@ -14,6 +14,3 @@ module _ (set : ℕ → Bool) (f : ℕ → ℤ) (x : ℤ) where
   pub least-turn : (j : ℕ) {q t : ℤ} → q ≡ leastOf j set f x → t ≡ f j → cond (set j) (smaller q t) q ≡ leastOf (j + 1) set f x
   unfolding leastOf
   least-turn j e h = rw (add-one, e, h)
-
-  pub least-done : (j n : ℕ) {q : ℤ} → q ≡ leastOf j set f x → j ≡ n → q ≡ leastOf n set f x
-  least-done j n e h = rw (← h) e

@@ -13,6 +13,7 @@ use paper::RowAnswer;
 use paper::Table;
 use request::PLATE_AND_FILE;
 use request::PLATE_BYTES;
+use say::Form;
 
 // As many numbers as the longest row has.
 const ROW: usize = 2 * MOST_TASKS;
@@ -46,7 +47,7 @@ fn put_row(buf: &mut [u8], at: usize, row: &[u8]) -> usize
         return at;
     }
     let first = say::decimal(buf, at, wide(row[0]));
-    let rest = say::bytes(buf, first, &row[1..]);
+    let rest = say::bytes(buf, first, Form::Number, &row[1..]);
     say::newline(buf, rest)
 }
 
@@ -89,8 +90,7 @@ fn put_table(buf: &mut [u8], t: Table) -> usize
     let n = t.n;
     let start = put_count(buf, 0, b"tasks", n as u64);
     let mut row = [0u8; ROW];
-    let numbers = if n < MOST_TASKS { 2 * n } else { ROW };
-    let used = fronts::of_bytes(&row, numbers);
+    let used = fronts::of_bytes(&row, 2 * fronts::smaller(n, MOST_TASKS));
     put_rows(buf, start, t, &mut row[..used])
 }
 

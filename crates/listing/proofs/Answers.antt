@@ -5,8 +5,8 @@ use native.Mathlib.Omega.{arith}
 use mathlib.Core.Path.{_≡_, refl, sym, ap, subst, _∙_}
 use mathlib.Core.Bool.{Bool, true, false, not}
 use mathlib.Core.List.{List, [], _∷_, _++_}
-use lib.ListN.{length, take, drop, getD, set, replicate, length-set, length-take}
-use lib.Seq.{take-suc, take-suc-set, take-set-le, length-take-le, getD-set-same, take-at, drop-at}
+use lib.ListN.{length, take, drop, getD, set, replicate, length-take}
+use lib.Seq.{take-suc, take-suc-set, length-take-le, take-at, drop-at}
 use Rattle.paper.specs.Numbers.{mostTasks}
 use Rattle.paper.specs.Analysis.{Tasks, tasksOf}
 use Rattle.paper.specs.Rows.{rowSize, rowHolds, Later, Passing, Ended}
@@ -22,15 +22,16 @@ use Rattle.paper.specs.declared.RowAnswer.{RowAnswer}
 use Rattle.paper.specs.declared.RowAnswer.the-variants as Row
 use Rattle.laws.specs.Order.{From, Within}
 use Rattle.laws.proofs.Order.{from-start, from-on, later-from, from-later-bump, within-none, within-last}
-use Rattle.columns.specs.Columns.{columnOf, tasksBy}
-use Rattle.columns.specs.declared.Column.the-variants.{Cost, Period, Deadline}
-use Rattle.columns.proofs.Fair.{tasks-by, costs-between, periods-between, deadlines-between}
+use Rattle.columns.specs.Columns.{columnsOf, tasksBy, Ranged}
+use Rattle.columns.proofs.Tables.{ranged-by, tasks-by, ranged}
 use Rattle.checks.proofs.Asks.{first-passed, first-refused}
-use Rattle.checks.proofs.Meaning.{some, few, first-row-done}
+use Rattle.checks.proofs.Meaning.{some, few}
+use Rattle.outcomes.proofs.Meaning.{first-row-done}
 use Rattle.paper.proofs.Formed.{formed}
 use Rattle.rows.proofs.Places.{formed-within}
-use Rattle.listing.specs.Search.{Accepted, Ranged, Begun, FirstFrom, NoneFrom, Finds, ListsFrom}
-use Rattle.listing.proofs.Moves.{passing-size, passing-within}
+use Rattle.search.specs.Search.{Begun, FirstFrom, NoneFrom, Finds}
+use Rattle.search.proofs.Moves.{begun-set, passing-size, passing-within}
+use Rattle.listing.specs.Lists.{Accepted, ListsFrom}
 
 -- A table that is not turned away.
 module _ {t : Table} {room : ℕ} (ok : Accepted t room) where
@@ -43,64 +44,43 @@ module _ {t : Table} {room : ℕ} (ok : Accepted t room) where
   pub enough-room : rowSize (t .n) ≤ room
   enough-room = first-row-done t room (ok .done) .fits
 
--- Its columns: they are in range, and their tasks are the table's.
-pub record ColumnsOf (t : Table) (cs ts ds : List ℕ) : Type 0 where
-  pub size : length (t .records) ≡ mostTasks
-  pub costs : cs ≡ columnOf (t .records) Cost
-  pub periods : ts ≡ columnOf (t .records) Period
-  pub deadlines : ds ≡ columnOf (t .records) Deadline
+-- The tasks in its columns are its own.
+module _ (t : Table) {ys : List ℕ} (o : (ys ≡ columnsOf (t .records)) × (length (t .records) ≡ mostTasks)) where
+  same-tasks : tasksBy (t .n) ys ≡ tasksOf (t .records) (t .n)
+  same-tasks = rw (o .0) (tasks-by (t .records) (t .n) (o .1))
 
-module _ {t : Table} {cs ts ds : List ℕ} (o : ColumnsOf t cs ts ds) where
-  pub ranged : {room : ℕ} → Accepted t room → Ranged (t .n) cs ts ds
-  ranged {room} ok =
-      let r = first-row-done t room (ok .done) .ranges in
-      record {
-        some = some-tasks ok;
-        few = few-tasks ok;
-        costs = rw (o .costs) (costs-between (t .records) (t .n) (few-tasks ok) r);
-        periods = rw (o .periods) (periods-between (t .records) (t .n) (few-tasks ok) r);
-        deadlines = rw (o .deadlines) (deadlines-between (t .records) (t .n) (few-tasks ok) r);
-      }
+  -- so the analysis may run on them
+  pub tasks-ranged : {room : ℕ} → Accepted t room → Ranged (tasksBy (t .n) ys)
+  tasks-ranged {room} ok = ranged-by (t .records) (t .n) (o .0) (o .1) (ranged (t .records) (t .n) (few-tasks ok) (first-row-done t room (ok .done) .ranges))
 
-  same-tasks : tasksBy (t .n) cs ts ds ≡ tasksOf (t .records) (t .n)
-  same-tasks = rw (o .costs, o .periods, o .deadlines) (tasks-by (t .records) (t .n) (o .size))
+  -- what a search among them finds: a row, which the digits hold,
+  module _ (q digits : List ℕ) {row : Bool} (f : Finds (tasksBy (t .n) ys) q row digits) where
+    found-row : row ≡ true → FirstFrom (tasksOf (t .records) (t .n)) q (take (rowSize (t .n)) digits)
+    unfolding Finds
+    found-row e =
+        subst (λ (y : Tasks). FirstFrom y q (take (rowSize (y .n)) digits)) same-tasks
+        (subst (λ (b : Bool). Finds (tasksBy (t .n) ys) q b digits) e f)
 
-  -- a row was found, and is at the front of the digits
-  pub found-row : (q digits : List ℕ) {row : Bool} → Finds (tasksBy (t .n) cs ts ds) q row digits → row ≡ true
-      → FirstFrom (tasksOf (t .records) (t .n)) q (take (rowSize (t .n)) digits)
-  unfolding Finds
-  found-row q digits f e =
-      subst (λ (y : Tasks). FirstFrom y q (take (rowSize (y .n)) digits)) same-tasks
-      (subst (λ (b : Bool). Finds (tasksBy (t .n) cs ts ds) q b digits) e f)
+    row-size : row ≡ true → length (take (rowSize (t .n)) digits) ≡ rowSize (t .n)
+    row-size e = passing-size (tasksOf (t .records) (t .n)) _ (found-row e .passing)
 
-  -- none was
-  pub found-none : (q digits : List ℕ) {row : Bool} → Finds (tasksBy (t .n) cs ts ds) q row digits → row ≡ false
-      → NoneFrom (tasksOf (t .records) (t .n)) q
-  unfolding Finds
-  found-none q digits f e =
-      subst (λ (y : Tasks). NoneFrom y q) same-tasks (subst (λ (b : Bool). Finds (tasksBy (t .n) cs ts ds) q b digits) e f)
+    pub row-inside : row ≡ true → rowSize (t .n) ≤ length digits
+    row-inside e = omega (arith, row-size e, length-take (rowSize (t .n)) digits)
 
--- the digits hold it all
-pub row-inside : (y : Tasks) (q digits : List ℕ) → FirstFrom y q (take (rowSize (y .n)) digits) → rowSize (y .n) ≤ length digits
-row-inside y q digits f =
-    let e = length-take (rowSize (y .n)) digits in
-    omega (arith, passing-size y (take (rowSize (y .n)) digits) (f .passing))
+    -- and which is written over the front of the buffer;
+    pub row-written : (out out' : List ℕ) → row ≡ true → out' ≡ take (rowSize (t .n)) digits ++ drop (rowSize (t .n)) out
+        → ListsFrom (tasksOf (t .records) (t .n)) q out out' Row.Row
+    unfolding ListsFrom
+    row-written out out' e w =
+        let k = rowSize (t .n) in
+        let front : take k out' ≡ take k digits = ap (λ (x : List ℕ). take k x) w ∙ take-at (take k digits) (drop k out) k (row-size e) in
+        (rw front (found-row e), ap (λ (x : List ℕ). drop k x) w ∙ drop-at (take k digits) (drop k out) k (row-size e))
 
--- and it is written over the front of the buffer
-pub row-written : (y : Tasks) (q digits out out' : List ℕ) → FirstFrom y q (take (rowSize (y .n)) digits)
-    → out' ≡ take (rowSize (y .n)) digits ++ drop (rowSize (y .n)) out → ListsFrom y q out out' Row.Row
-unfolding ListsFrom
-row-written y q digits out out' f e =
-    let k = rowSize (y .n) in
-    let l = passing-size y (take k digits) (f .passing) in
-    let front : take k out' ≡ take k digits = ap (λ (x : List ℕ). take k x) e ∙ take-at (take k digits) (drop k out) k l in (
-      subst (λ (x : List ℕ). FirstFrom y q x) (sym front) f,
-      ap (λ (x : List ℕ). drop k x) e ∙ drop-at (take k digits) (drop k out) k l,
-    )
-
-pub end-reached : (y : Tasks) (q out : List ℕ) → NoneFrom y q → ListsFrom y q out out Row.End
-unfolding ListsFrom
-end-reached y q out none = (none, refl)
+    -- or none
+    pub end-reached : (out : List ℕ) → row ≡ false → ListsFrom (tasksOf (t .records) (t .n)) q out out Row.End
+    unfolding Finds ListsFrom
+    end-reached out e =
+        (subst (λ (y : Tasks). NoneFrom y q) same-tasks (subst (λ (b : Bool). Finds (tasksBy (t .n) ys) q b digits) e f), refl)
 
 -- Where the passing rows from q on are those later than `given`, the search answers what is asked.
 lists : (y : Tasks) (given q out out' : List ℕ) (a : RowAnswer) → ((r : List ℕ) → Passing y r → Later given r → From q r)
@@ -174,18 +154,7 @@ module _ {n : ℕ} {given l : List ℕ} (g : Loaded n given l) (some' : 1 ≤ n)
   last-most = parts .1
 
   pub next-begun : Begun n (set l (rowSize n - 1) (getD l (rowSize n - 1) 0 + 1)) (rowSize n - 1)
-  next-begun =
-      let j = rowSize n - 1 in
-      let x = getD l j 0 in
-      let e = getD-set-same l j (x + 1) 0 (omega arith) in
-      record {
-        few = few';
-        inside = omega arith;
-        size = length-set l j (x + 1) ∙ g .size;
-        head = rw (take-set-le j l j (x + 1) (omega arith)) (parts .0);
-        low = omega arith;
-        high = omega (arith, last-most);
-      }
+  next-begun = begun-set l (rowSize n - 1) _ few' (omega arith) (g .size) (parts .0) (omega arith) (omega (arith, last-most))
 
   next-lists : (rs : List Record) (out out' : List ℕ) (a : RowAnswer)
       → ListsFrom (tasksOf rs n) (take (suc (rowSize n - 1)) (set l (rowSize n - 1) (getD l (rowSize n - 1) 0 + 1))) out out' a

@@ -2,11 +2,10 @@
 ghost use mathlib.Core.Path.{_≡_};
 ghost use mathlib.Core.List.{[], _∷_};
 ghost use Prim.Native.Nat.{_+_, _*_, _<_, _≤_, _^_};
-ghost use lib.ListN.{length, replicate};
+ghost use lib.ListN.{length, replicate, take, drop};
 ghost use Rattle.paper.specs.Numbers.{mostTasks, mostWords};
 ghost use Rattle.paper.specs.Bits.{putField, putFields};
 ghost use Rattle.paper.specs.File.{sourceBit, recordWidths, recordValues, recordAt, wordAt, fileLength, putHead, putRecords, putWords};
-ghost use Rattle.pack.specs.Widths.{ticksWidths, levelWidths, regionWidths, nameWidths};
 use paper::Cabinet;
 use paper::Line;
 use paper::MOST_TASKS;
@@ -54,40 +53,35 @@ fn source_bit(source: Source) -> u64
     }
 }
 
-// A record in four parts. The widths and places are numbers in the code, so that each field compiles to straight code.
-fn put_ticks(s: &mut [u8], at: usize, cost: u32, period: u32, deadline: u32)
-    requires { ⌜ (at + 60 ≤ length (now s) * 8) × (at < 2 ^ 20) ⌝ }
-    ensures { λ _. ⌜ now (s .exit) ≡ putFields (now (s .entry)) at ticksWidths (cost ∷ period ∷ deadline ∷ []) ⌝ }
+// A record in two parts and its spare bits. The widths and places are numbers in the code and each part has one caller, so that
+// each field compiles to straight code; a part that several calls shared would stay a call.
+fn put_numbers(
+    s: &mut [u8],
+    at: usize,
+    cost: u32,
+    period: u32,
+    deadline: u32,
+    priority: u32,
+    threshold: u32,
+)
+    requires { ⌜ (at + 68 ≤ length (now s) * 8) × (at < 2 ^ 20) ⌝ }
+    ensures { λ _. ⌜ now (s .exit) ≡ putFields (now (s .entry)) at (take 5 recordWidths) (cost ∷ period ∷ deadline ∷ priority ∷ threshold ∷ []) ⌝ }
 {
     bits::put(s, at, 20, cost as u64);
     bits::put(s, at + 20, 20, period as u64);
-    bits::put(s, at + 20 + 20, 20, deadline as u64);
+    bits::put(s, at + 40, 20, deadline as u64);
+    bits::put(s, at + 60, 4, priority as u64);
+    bits::put(s, at + 64, 4, threshold as u64);
 }
 
-fn put_levels(s: &mut [u8], at: usize, priority: u32, threshold: u32)
-    requires { ⌜ (at + 8 ≤ length (now s) * 8) × (at < 2 ^ 20) ⌝ }
-    ensures { λ _. ⌜ now (s .exit) ≡ putFields (now (s .entry)) at levelWidths (priority ∷ threshold ∷ []) ⌝ }
-{
-    bits::put(s, at, 4, priority as u64);
-    bits::put(s, at + 4, 4, threshold as u64);
-}
-
-fn put_regions(s: &mut [u8], at: usize, source: u64, first: u32, count: u32)
-    requires { ⌜ (at + 15 ≤ length (now s) * 8) × (at < 2 ^ 20) ⌝ }
-    ensures { λ _. ⌜ now (s .exit) ≡ putFields (now (s .entry)) at regionWidths (source ∷ first ∷ count ∷ []) ⌝ }
+fn put_places(s: &mut [u8], at: usize, source: u64, first: u32, count: u32, name: u32)
+    requires { ⌜ (at + 22 ≤ length (now s) * 8) × (at < 2 ^ 20) ⌝ }
+    ensures { λ _. ⌜ now (s .exit) ≡ putFields (now (s .entry)) at (take 4 (drop 5 recordWidths)) (source ∷ first ∷ count ∷ name ∷ []) ⌝ }
 {
     bits::put(s, at, 1, source);
     bits::put(s, at + 1, 7, first as u64);
-    bits::put(s, at + 1 + 7, 7, count as u64);
-}
-
-// The name number and the spare bits.
-fn put_name(s: &mut [u8], at: usize, name: u32)
-    requires { ⌜ (at + 13 ≤ length (now s) * 8) × (at < 2 ^ 20) ⌝ }
-    ensures { λ _. ⌜ now (s .exit) ≡ putFields (now (s .entry)) at nameWidths (name ∷ 0 ∷ []) ⌝ }
-{
-    bits::put(s, at, 7, name as u64);
-    bits::put(s, at + 7, layout::RECORD_SPARE, CLEAR);
+    bits::put(s, at + 8, 7, count as u64);
+    bits::put(s, at + 15, 7, name as u64);
 }
 
 fn put_record(s: &mut [u8], k: usize, r: Record)
@@ -97,10 +91,9 @@ fn put_record(s: &mut [u8], k: usize, r: Record)
     let source = r.source;
     let bit = source_bit(source);
     let at = layout::HEAD_BITS + layout::RECORD_BITS * k;
-    put_ticks(s, at, r.cost, r.period, r.deadline);
-    put_levels(s, at + 60, r.priority, r.threshold);
-    put_regions(s, at + 60 + 8, bit, r.first, r.count);
-    put_name(s, at + 60 + 8 + 15, r.name);
+    put_numbers(s, at, r.cost, r.period, r.deadline, r.priority, r.threshold);
+    put_places(s, at + 68, bit, r.first, r.count, r.name);
+    bits::put(s, at + layout::RECORD_USED, layout::RECORD_SPARE, CLEAR);
 }
 
 // Puts the first n records.

@@ -16,3 +16,4 @@ pub mod Extremes
 pub mod Writing
 pub mod Costs
 pub mod Sizes
+pub mod Places

@@ -13,7 +13,7 @@ use Rattle.paper.specs.Regions.{allRegionsHold}
 use Rattle.paper.specs.Refusals.{readAsks}
 use Rattle.paper.specs.Answers.{readOutcome}
 use Rattle.paper.specs.declared.Outcome.the-variants.{Done}
-use Rattle.paper.proofs.Tests.{both, within}
+use Rattle.paper.proofs.Tests.{both, _and_, within}
 use Rattle.paper.proofs.Asks.{done-none, none-done}
 
 -- What is known of a file that was read for a cabinet and a line, with a catalogue, into room for so many words.
@@ -72,43 +72,20 @@ module _ (f : List ℕ) (cabinet line : ℕ) (catalogue : List ℕ) (room : ℕ)
   -- And a file that is as it should be is read.
   pub read-done : Loaded f cabinet line catalogue room → readOutcome f cabinet line catalogue room ≡ Done
   read-done l =
-      none-done (readAsks f cabinet line catalogue room) (
-        le-ltb (length f) shortest (l .long),
-        (
-          ap not (eq-eqb (editionIn f) 1 (l .edition)),
-          (
-            ap not (eq-eqb (cabinetIn f) cabinet (l .cabinets)),
-            (
-              ap not (eq-eqb (lineIn f) line (l .lines)),
-              (
-                rw (le-leb 1 (tasksIn f) (l .some-tasks), le-leb (tasksIn f) mostTasks (l .few-tasks), le-leb (wordsIn f) mostWords (l .few-words)),
-                (
-                  ap not (eq-eqb (length f) (fileLength (tasksIn f) (wordsIn f)) (l .size)),
-                  (
-                    ap not (l .seal),
-                    (
-                      ap not (l .spare),
-                      (
-                        ap not (l .ranges),
-                        (
-                          ap not (l .assignment),
-                          (
-                            ap not (l .regions),
-                            (
-                              le-ltb room (wordsIn f) (l .fits),
-                              tt,
-                            ),
-                          ),
-                        ),
-                      ),
-                    ),
-                  ),
-                ),
-              ),
-            ),
-          ),
-        ),
-      )
+      none-done (readAsks f cabinet line catalogue room)
+      (le-ltb (length f) shortest (l .long)
+      and ap not (eq-eqb (editionIn f) 1 (l .edition))
+      and ap not (eq-eqb (cabinetIn f) cabinet (l .cabinets))
+      and ap not (eq-eqb (lineIn f) line (l .lines))
+      and (rw (le-leb 1 (tasksIn f) (l .some-tasks), le-leb (tasksIn f) mostTasks (l .few-tasks), le-leb (wordsIn f) mostWords (l .few-words)))
+      and ap not (eq-eqb (length f) (fileLength (tasksIn f) (wordsIn f)) (l .size))
+      and ap not (l .seal)
+      and ap not (l .spare)
+      and ap not (l .ranges)
+      and ap not (l .assignment)
+      and ap not (l .regions)
+      and le-ltb room (wordsIn f) (l .fits)
+      and tt)
 
   -- One cabinet, one file: a file whose cabinet or line is not the one on the plate is never loaded.
   pub one-cabinet : readOutcome f cabinet line catalogue room ≡ Done → (cabinetIn f ≡ cabinet) × (lineIn f ≡ line)

@@ -17,6 +17,11 @@ never b e f = true≢false (sym e ∙ f)
 pub both : (a b : Bool) → (a && b) ≡ true → (a ≡ true) × (b ≡ true)
 both a b e = and-eq-true-iff a b .0 e
 
+-- a chain of facts, each beside all that follow
+infixr 3 _and_
+pub _and_ : {A B : Type 0} → A → B → A × B
+a and b = (a, b)
+
 -- a test of two bounds says both
 pub within : (low high x : ℕ) → (leb low x && leb x high) ≡ true → (low ≤ x) × (x ≤ high)
 within low high x e =

@@ -14,7 +14,7 @@ use Rattle.paper.specs.Refusals.{writeAsks}
 use Rattle.paper.specs.Answers.{writeOutcome}
 use Rattle.paper.specs.declared.Outcome.the-variants.{Done}
 use Rattle.paper.specs.declared.Table.{Table}
-use Rattle.paper.proofs.Tests.{both, within}
+use Rattle.paper.proofs.Tests.{both, _and_, within}
 use Rattle.paper.proofs.Asks.{done-none, none-done}
 
 -- What is known of a table that is written for a cabinet, with its region words and a catalogue, into room for so many bytes.
@@ -51,19 +51,10 @@ module _ (t : Table) (cabinet : ℕ) (own catalogue : List ℕ) (room : ℕ) whe
 
   pub write-done : Taken t cabinet own catalogue room → writeOutcome t cabinet own catalogue room ≡ Done
   write-done w =
-      none-done (writeAsks t cabinet own catalogue room) (
-        rw (le-leb 1 (t .n) (w .some-tasks), le-leb (t .n) mostTasks (w .few-tasks), le-leb (length own) mostWords (w .few-words)),
-        (
-          rw (le-leb cabinet mostCabinet (w .cabinets)) (ap not (w .ranges)),
-          (
-            ap not (w .assignment),
-            (
-              ap not (w .regions),
-              (
-                le-ltb room (fileLength (t .n) (length own)) (w .fits),
-                tt,
-              ),
-            ),
-          ),
-        ),
-      )
+      none-done (writeAsks t cabinet own catalogue room)
+      ((rw (le-leb 1 (t .n) (w .some-tasks), le-leb (t .n) mostTasks (w .few-tasks), le-leb (length own) mostWords (w .few-words)))
+      and (rw (le-leb cabinet mostCabinet (w .cabinets)) (ap not (w .ranges)))
+      and ap not (w .assignment)
+      and ap not (w .regions)
+      and le-ltb room (fileLength (t .n) (length own)) (w .fits)
+      and tt)

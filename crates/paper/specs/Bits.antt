@@ -12,6 +12,11 @@ unfoldable pub field : List ℕ → ℕ → ℕ → ℕ
 field s at zero = 0
 field s at (suc w) = field s at w * 2 + bitAt s (at + w)
 
+-- the fields of the widths ws, one after the other from bit `at` on
+abbrev pub fieldsAt : List ℕ → ℕ → List ℕ → List ℕ
+fieldsAt s at [] = []
+fieldsAt s at (w ∷ ws) = field s at w ∷ fieldsAt s (at + w) ws
+
 -- x with b for its bit of weight 2 ^ k
 unfoldable pub withBit : ℕ → ℕ → ℕ → ℕ
 withBit x k b = (x / 2 ^ k / 2 * 2 + b) * 2 ^ k + x % 2 ^ k

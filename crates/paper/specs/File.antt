@@ -6,7 +6,7 @@ use lib.Dec.{eqb}
 use lib.ListN.{getD, length, take, replicate}
 use Rattle.paper.specs.Vocabulary.{listTo, every}
 use Rattle.paper.specs.Numbers.{perTask, zeroRecord, rec}
-use Rattle.paper.specs.Bits.{field, putField, putFields}
+use Rattle.paper.specs.Bits.{field, fieldsAt, putField, putFields}
 use Rattle.paper.specs.Seal.{sealOf}
 use Rattle.paper.specs.declared.Source.{Source}
 use Rattle.paper.specs.declared.Source.the-variants.{Own, Catalogue}
@@ -20,22 +20,26 @@ headWidths = 4 ∷ 4 ∷ 24 ∷ 16 ∷ 8 ∷ 8 ∷ []
 abbrev pub headValues : ℕ → ℕ → ℕ → ℕ → List ℕ
 headValues cabinet line n m = 1 ∷ 0 ∷ cabinet ∷ line ∷ n ∷ m ∷ []
 
+-- what a file's head says: its fields in that order; `getD .. i 0` is field i of them, counted from 0
+abbrev pub headFields : List ℕ → List ℕ
+headFields f = fieldsAt f 0 headWidths
+
 abbrev pub editionIn : List ℕ → ℕ
-editionIn f = field f 0 4
+editionIn f = getD (headFields f) 0 0
 
 abbrev pub cabinetIn : List ℕ → ℕ
-cabinetIn f = field f 8 24
+cabinetIn f = getD (headFields f) 2 0
 
 abbrev pub lineIn : List ℕ → ℕ
-lineIn f = field f 32 16
+lineIn f = getD (headFields f) 3 0
 
 abbrev pub tasksIn : List ℕ → ℕ
-tasksIn f = field f 48 8
+tasksIn f = getD (headFields f) 4 0
 
 abbrev pub wordsIn : List ℕ → ℕ
-wordsIn f = field f 56 8
+wordsIn f = getD (headFields f) 5 0
 
--- Each record, 96 bits: C 20, T 20, D 20, priority 4, threshold 4, region source 1, first region 7, region count 7, name number 7, spare 6
+-- Each record, 96 bits: C 20, T 20, D 20, priority 4, threshold 4, region source 1, first region 7 (counted from 0), region count 7, name number 7, spare 6
 abbrev pub recordBits : ℕ
 recordBits = 96
 
@@ -59,18 +63,25 @@ recordValues r =
 abbrev pub recordAt : ℕ → ℕ
 recordAt k = 64 + recordBits * k
 
-abbrev pub recordIn : List ℕ → ℕ → Record
-recordIn f k = record {
-  cost = field f (recordAt k) 20;
-  period = field f (recordAt k + 20) 20;
-  deadline = field f (recordAt k + 40) 20;
-  priority = field f (recordAt k + 60) 4;
-  threshold = field f (recordAt k + 64) 4;
-  source = sourceOf (field f (recordAt k + 68) 1);
-  first = field f (recordAt k + 69) 7;
-  count = field f (recordAt k + 76) 7;
-  name = field f (recordAt k + 83) 7;
+-- what it says: its fields in that order, and the record that they make
+abbrev pub recordFields : List ℕ → ℕ → List ℕ
+recordFields f k = fieldsAt f (recordAt k) recordWidths
+
+abbrev pub recordFrom : List ℕ → Record
+recordFrom vs = record {
+  cost = getD vs 0 0;
+  period = getD vs 1 0;
+  deadline = getD vs 2 0;
+  priority = getD vs 3 0;
+  threshold = getD vs 4 0;
+  source = sourceOf (getD vs 5 0);
+  first = getD vs 6 0;
+  count = getD vs 7 0;
+  name = getD vs 8 0;
 }
+
+abbrev pub recordIn : List ℕ → ℕ → Record
+recordIn f k = recordFrom (recordFields f k)
 
 -- Region words, 20 bits each, after n records
 abbrev pub wordAt : ℕ → ℕ → ℕ
@@ -91,8 +102,8 @@ shortest = 22
 -- Spare and filler bits are zero
 unfoldable pub spareClear : List ℕ → ℕ → ℕ → Bool
 spareClear f n m =
-    eqb (field f 4 4) 0 &&
-    (every n (λ k. eqb (field f (recordAt k + 90) 6) 0) &&
+    eqb (getD (headFields f) 1 0) 0 &&
+    (every n (λ k. eqb (getD (recordFields f k) 9 0) 0) &&
     eqb (field f (wordAt n m) (fillerWidth m)) 0)
 
 -- Seal, 16 bits: over all bytes before it

@@ -107,7 +107,7 @@ belowZeroAt record' = (ToleranceBelowZero record', ltb 0 record')
 abbrev pub toleranceBelowZero : Table → Refusal × Bool
 toleranceBelowZero t = belowZeroAt (lowestBelowZero (tasksOf (t .records) (t .n)) (assigned (t .records)))
 
--- Reading the file asks 1 to 11 of the file itself
+-- Reading asks 1 to 11 of the file; 3 and 4 compare it with the plate, 11 looks into the lent catalogue too
 abbrev pub fileAsks : List ℕ → ℕ → ℕ → List ℕ → Asks
 fileAsks f cabinet line catalogue =
     (Short, ltb (length f) shortest) ∷

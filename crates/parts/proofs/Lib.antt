@@ -1,9 +1,4 @@
-pub mod Asked
 pub mod NameParts
 pub mod RegionParts
 pub mod RecordParts
 pub mod OnePart
-pub mod Locals
-pub mod Params
-pub mod Handed
-pub mod Structs

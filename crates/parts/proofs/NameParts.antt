@@ -1,5 +1,5 @@
 -- Names: a name that is not turned away has its whole entry in the list, the part cut out of the list is the one that the paper names, and a trailing space goes.
-use mathlib.Core.Path.{_≡_, sym, _∙_}
+use mathlib.Core.Path.{_≡_, sym}
 use mathlib.Core.Bool.{cond}
 use mathlib.Core.List.{List}
 use Prim.Native.Nat.{ℕ, _+_, _≤_}
@@ -13,11 +13,10 @@ use Rattle.paper.specs.declared.Outcome.{Outcome}
 use Rattle.paper.specs.declared.Outcome.the-variants.{Done, Refused}
 use Rattle.paper.specs.declared.Refusal.the-variants.{OutOfRange, NoSuchPart}
 use Rattle.paper.specs.Numbers.{mostName}
-use Rattle.paper.specs.Regions.{noPart, nameWidth, inCabinetList, nameList, nameStart, namePart, trimmed}
+use Rattle.paper.specs.Regions.{noPart, nameWidth, inCabinetList, nameList, nameStart, trimmed}
 use Rattle.paper.specs.Answers.{nameOutcome}
 use Rattle.paper.proofs.Asks.{clear}
 use Rattle.parts.specs.Parts.{IsPart, IsName}
-use Rattle.parts.proofs.Asked.{when-done, when-refused, is-part}
 
 pub entry-inside : (number : ℕ) (cabinet house : List ℕ) → Done ≡ nameOutcome number cabinet house
     → nameStart number + nameWidth ≤ length (nameList number cabinet house)
@@ -31,17 +30,11 @@ module _ (number : ℕ) (cabinet house list r : RefT (List ℕ))
   o = nameOutcome number (now cabinet) (now house)
 
   pub name-refused : (x : Refusal) → Refused x ≡ o → IsPart list 1 noPart r → IsName number cabinet house r
-  name-refused x e cut =
-      let is = is-part 1 list _ _ _ noPart r chosen holds (when-refused o x (namePart number (nameList number (now cabinet) (now house))) noPart e) cut in
-      record { bytes = is .0; place = is .1 }
+  name-refused x e cut = record { bytes = rw (← e) (cut .contents); place = rw (← e, ← chosen) (cut .place) }
 
   pub name-done : (at stay : ℕ) → Done ≡ o → at ≡ nameStart number → stay ≡ trimmed (now list) at nameWidth
       → IsPart list 1 (record { from = at; count = stay }) r → IsName number cabinet house r
-  name-done at stay e ea es cut =
-      let is =
-      is-part 1 list _ _ _ (record { from = at; count = stay }) r chosen holds
-      (when-done o (namePart number (nameList number (now cabinet) (now house))) noPart e ∙ rw (es, ea, holds)) cut in
-      record { bytes = is .0; place = is .1 }
+  name-done at stay e ea es cut = record { bytes = rw (← e, ← holds, ← ea, ← es) (cut .contents); place = rw (← e, ← holds, ← ea, ← es, ← chosen) (cut .place) }
 
 -- the last of the bytes that are left is a space, or isn't, or there is none
 pub space-goes : (s : List ℕ) (at last stay : ℕ) → last + 1 ≡ stay → getD s (at + last) 0 ≡ 32 → trimmed s at stay ≡ trimmed s at last

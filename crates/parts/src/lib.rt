@@ -160,7 +160,7 @@ pub fn regions_outcome<'a>(t: Table, own: &'a [u32], catalogue: &'a [u32], numbe
     if !is_record(number, n) {
         return Outcome::Refused(Refusal::NoSuchPart);
     }
-    if !checks::record_regions_hold(own, catalogue, record_of(t, number)) {
+    if !regions::record_regions_hold(own, catalogue, record_of(t, number)) {
         return Outcome::Refused(Refusal::BadRegions);
     }
     Outcome::Done

@@ -72,7 +72,7 @@ fn body(
     if !checks::assignment_holds(rs, n) {
         return Outcome::Refused(Refusal::BadAssignment);
     }
-    if !checks::all_regions_hold(rs, n, own, catalogue) {
+    if !regions::all_regions_hold(rs, n, own, catalogue) {
         return Outcome::Refused(Refusal::BadRegions);
     }
     if room < m {

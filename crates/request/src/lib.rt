@@ -2,6 +2,7 @@
 // its last piece ends where the body does, since no piece that lies past the end can.
 ghost use Prim.Native.Nat.{_+_, _<_, _≤_, _^_};
 ghost use Rattle.fronts.specs.Front.{Front};
+ghost use Rattle.paper.specs.Numbers.{mostTasks};
 use paper::Cabinet;
 use paper::Line;
 use paper::MOST_TASKS;
@@ -20,17 +21,32 @@ pub const LONGEST_BODY: usize = 4096;
 
 pub const MOST_BODY_WORDS: usize = LONGEST_BODY / 4;
 
+// The longest body of a request of a kind: one number for all of them; a kind that is to have another gets it here. `ask` has
+// room for LONGEST_BODY bytes and would cut a longer body off, so no kind's limit lies above that. The number stands in the promise again, as a promise can't name a constant of the code.
+pub fn longest_body(_kind: u8) -> usize
+    ensures { λ r. ⌜ r ≤ 4096 ⌝ }
+{
+    LONGEST_BODY
+}
+
 // What every byte of an output holds before it is lent.
 pub const FILL: u8 = 0xA5;
 
 pub const FILL_WORD: u32 = 0xA5A5_A5A5;
+
+// A byte as a number.
+fn wide(b: u8) -> u32
+    ensures { λ r. ⌜ r < 256 ⌝ }
+{
+    b as u32
+}
 
 // The byte at a place, or 0.
 fn byte_at(s: &[u8], at: usize) -> u32
     ensures { λ r. ⌜ r < 256 ⌝ }
 {
     if at < s.len() {
-        return s[at] as u32;
+        return wide(s[at]);
     }
     0
 }
@@ -81,6 +97,13 @@ pub fn bytes_at(s: &[u8], at: usize) -> &[u8]
     &s[..0]
 }
 
+// Word k of a piece, counted from 0.
+fn word_at(s: &[u8], at: usize, k: usize) -> u32
+    requires { ⌜ (at < 2 ^ 24) × (k < 65536) ⌝ }
+{
+    four_at(s, at + 2 + k * 4)
+}
+
 // The words of a piece, put at the front of a lent list as far as that reaches.
 pub fn take_words(s: &[u8], at: usize, out: &mut [u32]) -> usize
     requires { ⌜ at < 2 ^ 24 ⌝ }
@@ -89,7 +112,7 @@ pub fn take_words(s: &[u8], at: usize, out: &mut [u32]) -> usize
     let end = fronts::of_words(out, two_at(s, at));
     let mut i: usize = 0;
     while i < end {
-        out[i] = four_at(s, at + 2 + i * 4);
+        out[i] = word_at(s, at, i);
         i += 1;
     }
     end
@@ -150,15 +173,22 @@ pub const RECORD_BYTES: usize = 9 * 4;
 
 pub const TABLE_BYTES: usize = 1 + RECORD_BYTES * MOST_TASKS;
 
+// Record k + 1 of a table.
+fn table_record(s: &[u8], at: usize, k: usize) -> Record
+    requires { ⌜ (at < 2 ^ 16) × (k < mostTasks) ⌝ }
+{
+    record_at(s, at + 1 + k * RECORD_BYTES)
+}
+
 pub fn table_at(s: &[u8], at: usize) -> Table
     requires { ⌜ at < 2 ^ 16 ⌝ }
 {
     let n = byte_at(s, at) as usize;
-    let first = record_at(s, at + 1);
+    let first = table_record(s, at, 0);
     let mut records = [first; MOST_TASKS];
     let mut k: usize = 1;
     while k < MOST_TASKS {
-        records[k] = record_at(s, at + 1 + k * RECORD_BYTES);
+        records[k] = table_record(s, at, k);
         k += 1;
     }
     Table { n, records }

@@ -1,5 +1,2 @@
-pub mod Blocks
-pub mod Cases
-pub mod Jobs
-pub mod Verdicts
+pub mod Bounds
 pub mod Answers

@@ -6,9 +6,6 @@ use mathlib.Core.List.{List, _++_}
 use lib.ListN.{length, take, drop, length-append, length-drop}
 use lib.Seq.{take-all, take-at}
 
-pub copy-done : (s o : List ℕ) (i k : ℕ) {d : List ℕ} → d ≡ take i s ++ drop i o → i ≡ k → d ≡ take k s ++ drop k o
-copy-done s o i k e h = rw (← h) e
-
 -- all of it is there
 pub copied : (s o : List ℕ) (i k : ℕ) {d : List ℕ} → d ≡ take i s ++ drop i o → i ≡ length s → length o ≡ k → length s ≤ k
     → (length d ≡ k) × (take (length s) d ≡ s)

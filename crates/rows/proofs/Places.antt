@@ -4,8 +4,8 @@ use native.Mathlib.Decide.{decLe}
 use native.Mathlib.Numerals.{add-one}
 use native.Mathlib.Omega.{arith}
 use mathlib.Core.Path.{_≡_, sym, ap, ap₂, _∙_}
-use mathlib.Core.Bool.{Bool, true, false, not, cond, _&&_}
-use mathlib.Core.List.{List, [], _∷_}
+use mathlib.Core.Bool.{true, not, _&&_}
+use mathlib.Core.List.{List, _∷_}
 use mathlib.Core.Logic.{by-cases}
 use lib.Dec.{leb, eqb}
 use lib.ListN.{length, take, drop, getD, drop-of-length-le}
@@ -39,16 +39,6 @@ module _ (n : ℕ) (d : List ℕ) (fits : n ≤ length d) (i v : ℕ) where
   pub place-none : n ≤ i → placeOf (drop i (take n d)) v ≡ 0
   unfolding placeOf
   place-none l = rw (drop-of-length-le (take n d) {i = i} (rw (length-take-le n d fits) l))
-
--- a place is counted from 1
-pub place-least : (order : List ℕ) (v : ℕ) → 1 ≤ length order → 1 ≤ placeOf order v
-unfolding placeOf
-place-least [] v h = absurd (omega arith)
-place-least (a ∷ order) v h = go (eqb a v)
-  where
-    go : (b : Bool) → 1 ≤ cond b 1 (suc (placeOf order v))
-    go true = omega arith
-    go false = omega arith
 
 -- A well-formed row: its numbers lie from 1 to n,
 pub formed-within : (n : ℕ) (row : List ℕ) → Formed n row → Within n row

@@ -36,13 +36,21 @@ pub fn decimal(buf: &mut [u8], at: usize, x: u64) -> usize
     text::put_decimal(buf, start, x)
 }
 
+// A mark and a number behind it.
+pub fn marked(buf: &mut [u8], at: usize, mark: u8, x: u64) -> usize
+    requires { ⌜ at ≤ length (now buf) ⌝ }
+    ensures { λ r. ⌜ r ≤ length (now (buf .entry)) ⌝ }
+{
+    let start = text::room(buf, at, PIECE);
+    text::put_marked(buf, start, mark, x)
+}
+
 // A space and a number.
 pub fn number(buf: &mut [u8], at: usize, x: u64) -> usize
     requires { ⌜ at ≤ length (now buf) ⌝ }
     ensures { λ r. ⌜ r ≤ length (now (buf .entry)) ⌝ }
 {
-    let start = text::room(buf, at, PIECE);
-    text::put_next(buf, start, x)
+    marked(buf, at, b' ', x)
 }
 
 // The absolute value. -x does not fit at the lowest i64, so one is added back after the cast.
@@ -63,9 +71,8 @@ fn signed(buf: &mut [u8], at: usize, x: i64) -> usize
     if x >= 0 {
         return number(buf, at, size_of(x));
     }
-    let start = text::room(buf, at, PIECE);
-    let minus = text::put_all(buf, start, b" -");
-    text::put_decimal(buf, minus, size_of(x))
+    let start = word(buf, at, b" ");
+    marked(buf, start, b'-', size_of(x))
 }
 
 // `refused N`, and for 16 the record.
@@ -84,32 +91,26 @@ pub fn refused(buf: &mut [u8], at: usize, r: Refusal) -> usize
     }
 }
 
-// Words, each behind a space.
-pub fn words(buf: &mut [u8], at: usize, ws: &[u32]) -> usize
+// Words, each behind a mark.
+pub fn marked_words(buf: &mut [u8], at: usize, mark: u8, ws: &[u32]) -> usize
     requires { ⌜ at ≤ length (now buf) ⌝ }
     ensures { λ r. ⌜ r ≤ length (now (buf .entry)) ⌝ }
 {
     let mut end = at;
     let mut i: usize = 0;
     while i < ws.len() {
-        end = number(buf, end, ws[i] as u64);
+        end = marked(buf, end, mark, ws[i] as u64);
         i += 1;
     }
     end
 }
 
-// Bytes as numbers, each behind a space.
-pub fn bytes(buf: &mut [u8], at: usize, bs: &[u8]) -> usize
+// Words, each behind a space.
+pub fn words(buf: &mut [u8], at: usize, ws: &[u32]) -> usize
     requires { ⌜ at ≤ length (now buf) ⌝ }
     ensures { λ r. ⌜ r ≤ length (now (buf .entry)) ⌝ }
 {
-    let mut end = at;
-    let mut i: usize = 0;
-    while i < bs.len() {
-        end = number(buf, end, bs[i] as u64);
-        i += 1;
-    }
-    end
+    marked_words(buf, at, b' ', ws)
 }
 
 // Signed numbers, each behind a space.
@@ -142,15 +143,49 @@ fn pair(buf: &mut [u8], at: usize, b: u8) -> usize
     text::put(buf, half, digit(b % 16))
 }
 
-// Bytes in one hexadecimal run, with nothing in front.
-fn run(buf: &mut [u8], at: usize, bs: &[u8]) -> usize
+// A byte as it can be shown: a list of names may hold anything.
+fn shown(b: u8) -> u8 {
+    if (b < 32) | (126 < b) { b'?' } else { b }
+}
+
+fn character(buf: &mut [u8], at: usize, b: u8) -> usize
+    requires { ⌜ at ≤ length (now buf) ⌝ }
+    ensures { λ r. ⌜ r ≤ length (now (buf .entry)) ⌝ }
+{
+    let start = text::room(buf, at, 1);
+    text::put(buf, start, shown(b))
+}
+
+// What a byte is put as.
+pub enum Form {
+    // A number behind a space.
+    Number,
+    // Two hexadecimal digits.
+    Pair,
+    // As it stands, or a question mark.
+    Character,
+}
+
+fn byte(buf: &mut [u8], at: usize, form: Form, b: u8) -> usize
+    requires { ⌜ at ≤ length (now buf) ⌝ }
+    ensures { λ r. ⌜ r ≤ length (now (buf .entry)) ⌝ }
+{
+    match form {
+        Form::Number => number(buf, at, b as u64),
+        Form::Pair => pair(buf, at, b),
+        Form::Character => character(buf, at, b),
+    }
+}
+
+// Bytes, each in the same form.
+pub fn bytes(buf: &mut [u8], at: usize, form: Form, bs: &[u8]) -> usize
     requires { ⌜ at ≤ length (now buf) ⌝ }
     ensures { λ r. ⌜ r ≤ length (now (buf .entry)) ⌝ }
 {
     let mut end = at;
     let mut i: usize = 0;
     while i < bs.len() {
-        end = pair(buf, end, bs[i]);
+        end = byte(buf, end, form, bs[i]);
         i += 1;
     }
     end
@@ -165,7 +200,7 @@ pub fn hexadecimal(buf: &mut [u8], at: usize, bs: &[u8]) -> usize
         return at;
     }
     let start = word(buf, at, b" ");
-    run(buf, start, bs)
+    bytes(buf, start, Form::Pair, bs)
 }
 
 // ` out` and all elements of what was lent: words, the numbers of a row, the bytes of a file.
@@ -182,7 +217,7 @@ pub fn out_row(buf: &mut [u8], at: usize, out: &[u8]) -> usize
     ensures { λ r. ⌜ r ≤ length (now (buf .entry)) ⌝ }
 {
     let named = word(buf, at, b" out");
-    bytes(buf, named, out)
+    bytes(buf, named, Form::Number, out)
 }
 
 pub fn out_file(buf: &mut [u8], at: usize, out: &[u8]) -> usize

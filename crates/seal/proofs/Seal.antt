@@ -1,6 +1,6 @@
 -- The seal in a file: it fits its 16 bits, what is put is sealed, nothing else changes, and it is fixed by the bytes before it.
 use mathlib.Core.Path.{_≡_, sym, ap, _∙_}
-use mathlib.Core.Logic.{_⊎_, by-cases}
+use mathlib.Core.Logic.{by-cases}
 use mathlib.Core.Bool.{true}
 use mathlib.Core.List.{List, [], _∷_}
 use Prim.Native.Nat.{ℕ, zero, suc, _+_, _-_, _*_, _^_, _≤_, _<_}
@@ -9,12 +9,12 @@ use native.Mathlib.Omega.{arith}
 use borrow.Author.Tests.{lt-ltb, le-ltb, eq-eqb, eqb-true}
 use lib.ListN.{length, take}
 use lib.Bits.{bitXor, xor-lt}
-use Rattle.paper.specs.Bits.{bitAt, field}
+use Rattle.paper.specs.Bits.{field}
 use Rattle.paper.specs.Seal.{generator, sealBit, sealBits, sealByte, sealFrom, sealOf}
 use Rattle.paper.specs.File.{sealed, putSeal}
 use Rattle.bits.specs.Fields.{Bytes}
 use Rattle.bits.proofs.Field.{SameBits, field-bits}
-use Rattle.bits.proofs.Putting.{put-length, put-bytes, put-bit-other, put-take, put-got}
+use Rattle.bits.proofs.Putting.{Only, put-only, put-take, put-got}
 use Rattle.bits.proofs.Same.{same-bytes, take-bytes, take-same}
 
 bit-lt : (c : ℕ) → c < 2 ^ 16 → sealBit c < 2 ^ 16
@@ -38,18 +38,9 @@ from-lt c (b ∷ s) h f =
 pub seal-lt : (s : List ℕ) → Bytes s → sealOf s < 2 ^ 16
 seal-lt s f = from-lt 0xffff s (omega arith) f
 
-pub seal-length : (f : List ℕ) (end : ℕ) → length (putSeal f end) ≡ length f
+pub seal-only : (f : List ℕ) (end : ℕ) → Only f (putSeal f end) (end * 8) (end * 8 + 16)
 unfolding putSeal
-seal-length f end = put-length f (end * 8) 16 (sealOf (take end f))
-
-pub seal-bytes : (f : List ℕ) (end : ℕ) → Bytes f → Bytes (putSeal f end)
-unfolding putSeal
-seal-bytes f end h = put-bytes f (end * 8) 16 (sealOf (take end f)) h
-
--- the bits and the fields elsewhere stay
-pub seal-bit-other : (f : List ℕ) (end q : ℕ) → (q < end * 8) ⊎ (end * 8 + 16 ≤ q) → bitAt (putSeal f end) q ≡ bitAt f q
-unfolding putSeal
-seal-bit-other f end q o = put-bit-other f (end * 8) 16 (sealOf (take end f)) q o
+seal-only f end = put-only f (end * 8) 16 (sealOf (take end f))
 
 -- what was put is sealed
 pub seal-holds : (f : List ℕ) (end : ℕ) → Bytes f → end + 2 ≤ length f → sealed (putSeal f end) end ≡ true

@@ -117,7 +117,7 @@ fn put_file<'a>(
         Outcome::Done => {
             let t = answer.table;
             let rs = t.records;
-            unnamed::tell(rs, t.n, cabinet_names, house_names);
+            unnamed::tell(rs, show_facts::jobs_of(t), cabinet_names, house_names);
             let m = fronts::of_words(&words, answer.words);
             let start = put_jobs(buf, plated, t);
             show_sheet::put_sheet(

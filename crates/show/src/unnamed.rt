@@ -1,4 +1,6 @@
 // Jobs whose name a list that was given doesn't reach: they are shown by their number, and this says why.
+ghost use Prim.Native.Nat.{_≤_};
+ghost use Rattle.paper.specs.Numbers.{mostTasks};
 use paper::MOST_TASKS;
 use paper::Outcome;
 use paper::Record;
@@ -25,9 +27,11 @@ fn ends_before<'a>(number: u32, cabinet: &'a [u8], house: &'a [u8]) -> bool {
 }
 
 // The number of the first such job, or 0.
-fn first_of<'a>(rs: [Record; MOST_TASKS], n: usize, cabinet: &'a [u8], house: &'a [u8]) -> usize {
+fn first_of<'a>(rs: [Record; MOST_TASKS], n: usize, cabinet: &'a [u8], house: &'a [u8]) -> usize
+    requires { ⌜ n ≤ mostTasks ⌝ }
+{
     let mut k: usize = 0;
-    while k < MOST_TASKS && k < n {
+    while k < n {
         let r = rs[k];
         if ends_before(r.name, cabinet, house) {
             return k + 1;
@@ -37,7 +41,9 @@ fn first_of<'a>(rs: [Record; MOST_TASKS], n: usize, cabinet: &'a [u8], house: &'
     0
 }
 
-pub fn tell<'a>(rs: [Record; MOST_TASKS], n: usize, cabinet: &'a [u8], house: &'a [u8]) {
+pub fn tell<'a>(rs: [Record; MOST_TASKS], n: usize, cabinet: &'a [u8], house: &'a [u8])
+    requires { ⌜ n ≤ mostTasks ⌝ }
+{
     let job = first_of(rs, n, cabinet, house);
     if job == 0 {
         return;

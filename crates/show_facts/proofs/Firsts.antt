@@ -8,15 +8,19 @@ use borrow.Author.Count.{below-more}
 use Rattle.paper.specs.Vocabulary.{lowest}
 use Rattle.paper.proofs.Extremes.{lowest-none, lowest-found}
 
-module _ (test : ℕ → Bool) (n : ℕ) where
-  abbrev pub Passed : ℕ → Type 0
-  Passed k = (j : ℕ) → j < k → not (test j) ≡ false
+-- the first k jobs pass
+pub record Passed (test : ℕ → Bool) (k : ℕ) : Type 0 where
+  pub passed : (j : ℕ) → j < k → not (test j) ≡ false
 
-  pub first-found : (k : ℕ) {b : Bool} → k < n → b ≡ test k → not b ≡ true → Passed k → k + 1 ≡ lowest n (λ j. not (test j))
-  first-found k h e t p = add-one k ∙ sym (lowest-found (λ j. not (test j)) n k h (rw e at t) p)
+module _ {test : ℕ → Bool} where
+  pub none-yet : Passed test 0
+  none-yet = record { passed = λ j l. absurd (omega arith) }
 
-  pub one-more : (k : ℕ) {b : Bool} → b ≡ test k → not b ≡ false → Passed k → Passed (k + 1)
-  one-more k e t p = below-more (λ j. not (test j) ≡ false) k p (rw e at t)
+  pub one-more : {k : ℕ} {b : Bool} → Passed test k → b ≡ test k → not b ≡ false → Passed test (k + 1)
+  one-more {k} p e t = record { passed = below-more (λ j. not (test j) ≡ false) k (p .passed) (rw e at t) }
 
-  pub none-found : (k : ℕ) → n ≤ k → Passed k → 0 ≡ lowest n (λ j. not (test j))
-  none-found k h p = sym (lowest-none (λ j. not (test j)) n (λ j l. p j (omega arith)))
+  pub first-found : {k n : ℕ} {b : Bool} → Passed test k → k < n → b ≡ test k → not b ≡ true → k + 1 ≡ lowest n (λ j. not (test j))
+  first-found {k} {n} p h e t = add-one k ∙ sym (lowest-found (λ j. not (test j)) n k h (rw e at t) (p .passed))
+
+  pub none-found : {k n : ℕ} → Passed test k → n ≤ k → 0 ≡ lowest n (λ j. not (test j))
+  none-found {k} {n} p h = sym (lowest-none (λ j. not (test j)) n (λ j l. p .passed j (omega arith)))

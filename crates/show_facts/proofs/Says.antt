@@ -1,6 +1,6 @@
 -- What a cell, a note and a half of the verdict are in each case.
 use Prim.Native.Nat.{ℕ, _+_, _-_, _≤_, _<_}
-use mathlib.Core.Path.{_≡_, sym, ap, _∙_}
+use mathlib.Core.Path.{_≡_, sym}
 use mathlib.Core.Bool.{Bool, true, false, not}
 use mathlib.Core.List.{List}
 use native.Mathlib.Omega.{arith}
@@ -25,7 +25,7 @@ use Rattle.paper.specs.declared.Time.{Time}
 use Rattle.paper.specs.declared.Time.the-variants.{At, Beyond}
 use Rattle.cells.specs.declared.Cell.{Cell}
 use Rattle.cells.specs.declared.Cell.the-variants as Cell
-use Rattle.show_facts.specs.Sheet.{fitsAt, factsOf, placeCell, slackCell, ticksCell, shown, firstNote, jobs, keepsAt, deadlinesOf, fitOf, verdictOf}
+use Rattle.show_facts.specs.Sheet.{fitsAt, factsOf, placeCell, slackCell, ticksCell, firstNote, jobs, keepsAt, deadlinesOf, fitOf, verdictOf}
 use Rattle.show_facts.specs.declared.Note.the-variants as Note
 use Rattle.show_facts.specs.declared.Facts.{Facts}
 use Rattle.show_facts.specs.declared.Deadlines.{Deadlines}
@@ -63,9 +63,6 @@ ticks-above x m b h e = go x (rw b at h) (rw b at e)
     go : (x : ℤ) → ltZ x (pos 0) ≡ false → m ≡ natAbs x → Cell.Number m ≡ ticksCell x
     go (pos x) h e = rw e
     go (negsuc x) h e = let z : _≡_ {A = ℕ} 0 1 = cc in absurd (omega arith)
-
-pub shown-as : (o : Outcome) {r x y : Cell} → r ≡ shown o x → x ≡ y → r ≡ shown o y
-shown-as o e f = e ∙ ap (shown o) f
 
 -- a cell by its column's number, and past the last
 pub in-column : (cells : List Cell) (column i : ℕ) {x : Cell} → column ≡ i → x ≡ getD cells i Cell.Dash → x ≡ getD cells column Cell.Dash

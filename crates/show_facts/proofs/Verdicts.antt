@@ -29,8 +29,7 @@ use Rattle.paper.specs.declared.FitAnswer.the-variants as Answer
 use Rattle.paper.proofs.Tests.{both, within as bounds, every-says, every-all, every-fails}
 use Rattle.paper.proofs.Asks.{done-none, none-done}
 use Rattle.paper.proofs.Extremes.{lowest-none, lowest-found, lowest-either}
-use Rattle.laws.proofs.AgreeLengths.{lowest-same}
-use Rattle.laws.proofs.Every.{every-same}
+use Rattle.laws.proofs.Every.{every-same, lowest-same}
 use Rattle.laws.proofs.Lists.{list-at, per-task-at}
 use Rattle.show_facts.specs.Sheet.{fitsAt, factsOf, jobs, keepsAt, firstLate, firstUnfit, deadlinesOf, fitOf, verdictOf, inSource, insideAt, firstOutside}
 use Rattle.show_facts.specs.declared.Deadlines.{Deadlines}

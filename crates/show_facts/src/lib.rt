@@ -9,6 +9,7 @@ ghost use Rattle.paper.specs.Vocabulary.{listTo, lowest};
 ghost use Rattle.paper.specs.Numbers.{mostTasks, rec};
 ghost use Rattle.paper.specs.Analysis.{within};
 ghost use Rattle.show_facts.specs.Sheet.{timeAt, ticksAt, fitsAt, factsOf, placeCell, timeCell, slackCell, ticksCell, fitCell, shown, cellsOf, firstNote, keepsAt, deadlinesOf, fitOf, verdictOf, inSource, firstOutside};
+ghost use Rattle.show_facts.specs.Asked.{holdsAt};
 use cells::Cell;
 use paper::FitAnswer;
 use paper::MOST_TASKS;
@@ -70,7 +71,7 @@ fn all_fits(
     let mut fits = [false; MOST_TASKS];
     let mut k: usize = 0;
     while k < MOST_TASKS {
-        fits[k] = lengths::record_fits(rs[k], own, catalogue, lengths[k]);
+        fits[k] = fits::record_fits(rs[k], own, catalogue, lengths[k]);
         k += 1;
     }
     fits
@@ -287,14 +288,33 @@ fn keeps_at(f: Facts, k: usize) -> bool
     keeps(time_at(f.times, k), r.deadline as u64)
 }
 
-// The number of the first job that misses its deadline, or 0.
-fn first_late(f: Facts, n: usize) -> usize
+// What the verdict asks of a job: that it keeps its deadline, that none of its regions is above its length.
+enum Asked {
+    Deadline,
+    Regions,
+}
+
+fn holds_at(f: Facts, asked: Asked, k: usize) -> bool
+    requires { ⌜ k < mostTasks ⌝ }
+    ensures { λ b. ⌜ b ≡ holdsAt f asked k ⌝ }
+{
+    match asked {
+        Asked::Deadline => keeps_at(f, k),
+        Asked::Regions => {
+            let fits = f.fits;
+            fit_at(fits, k)
+        }
+    }
+}
+
+// The number of the first job of which it does not hold, or 0.
+fn first_failing(f: Facts, asked: Asked, n: usize) -> usize
     requires { ⌜ n ≤ mostTasks ⌝ }
-    ensures { λ r. ⌜ r ≡ lowest n (λ k. not (keepsAt f k)) ⌝ }
+    ensures { λ r. ⌜ r ≡ lowest n (λ k. not (holdsAt f asked k)) ⌝ }
 {
     let mut k: usize = 0;
     while k < n {
-        if !keeps_at(f, k) {
+        if !holds_at(f, asked, k) {
             return k + 1;
         }
         k += 1;
@@ -302,22 +322,8 @@ fn first_late(f: Facts, n: usize) -> usize
     0
 }
 
-// The number of the first job with a region above its length, or 0.
-fn first_unfit(fits: [bool; MOST_TASKS], n: usize) -> usize
-    requires { ⌜ n ≤ mostTasks ⌝ }
-    ensures { λ r. ⌜ r ≡ lowest n (λ k. not (getD fits k false)) ⌝ }
-{
-    let mut k: usize = 0;
-    while k < n {
-        if !fit_at(fits, k) {
-            return k + 1;
-        }
-        k += 1;
-    }
-    0
-}
-
-fn jobs_of(t: Table) -> usize
+// How many jobs a table has, at most as many as it holds.
+pub fn jobs_of(t: Table) -> usize
     ensures { λ n. ⌜ n ≤ mostTasks ⌝ }
     ensures { λ n. ⌜ n ≡ min (t .n) mostTasks ⌝ }
 {
@@ -353,10 +359,9 @@ pub fn verdict_of(f: Facts) -> Verdict
         Outcome::Refused(_) => Verdict::Unchecked,
         Outcome::Done => {
             let n = jobs_of(f.table);
-            let fits = f.fits;
             let check = f.check;
-            let deadlines = deadlines_of(first_late(f, n));
-            let fit = fit_of(check, first_unfit(fits, n));
+            let deadlines = deadlines_of(first_failing(f, Asked::Deadline, n));
+            let fit = fit_of(check, first_failing(f, Asked::Regions, n));
             Verdict::Checked(deadlines, fit)
         }
     }

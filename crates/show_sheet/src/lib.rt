@@ -5,7 +5,6 @@ ghost use Prim.Native.Nat.{_≤_, _<_};
 ghost use lib.ListN.{length};
 ghost use Rattle.paper.specs.Numbers.{mostTasks};
 use cells::Cell;
-use paper::MOST_TASKS;
 use paper::Refusal;
 use paper::Table;
 use show_facts::COLUMNS;
@@ -14,6 +13,11 @@ use show_facts::Facts;
 use show_facts::Fit;
 use show_facts::Note;
 use show_facts::Verdict;
+
+// Behind the columns of numbers stands the width of the names.
+const NAMES: usize = COLUMNS;
+
+const WIDTHS: usize = COLUMNS + 1;
 
 fn put_heading(buf: &mut [u8], at: usize, column: usize, width: usize) -> usize
     requires { ⌜ at ≤ length (now buf) ⌝ }
@@ -35,7 +39,7 @@ fn put_heading(buf: &mut [u8], at: usize, column: usize, width: usize) -> usize
 
 fn heading_width(column: usize) -> usize {
     match column {
-        0 | 5 => 4,
+        0 | 5 | NAMES => 4,
         1 | 8 => 6,
         3 | 4 => 2,
         6 => 5,
@@ -43,99 +47,84 @@ fn heading_width(column: usize) -> usize {
     }
 }
 
-// As wide as its heading and its widest cell.
-fn column_width(f: Facts, n: usize, column: usize) -> usize {
+fn name_number(t: Table, k: usize) -> u32
+    requires { ⌜ k < mostTasks ⌝ }
+{
+    let rs = t.records;
+    let r = rs[k];
+    r.name
+}
+
+// How many characters a job takes in a column.
+fn width<'a>(f: Facts, k: usize, column: usize, cabinet: &'a [u8], house: &'a [u8]) -> usize
+    requires { ⌜ k < mostTasks ⌝ }
+{
+    if column == NAMES {
+        return names::width(name_number(f.table, k), cabinet, house);
+    }
+    cells::width_of(show_facts::cell(f, k, column))
+}
+
+// As wide as its heading and the widest of its n jobs.
+fn column_width<'a>(f: Facts, n: usize, column: usize, cabinet: &'a [u8], house: &'a [u8]) -> usize
+    requires { ⌜ n ≤ mostTasks ⌝ }
+{
     let mut widest = heading_width(column);
     let mut k: usize = 0;
-    while k < MOST_TASKS && k < n {
-        widest = cells::larger(widest, cells::width_of(show_facts::cell(f, k, column)));
+    while k < n {
+        widest = cells::larger(widest, width(f, k, column, cabinet, house));
         k += 1;
     }
     widest
 }
 
-fn widths_of(f: Facts, n: usize) -> [usize; COLUMNS] {
-    let mut widths = [0usize; COLUMNS];
+fn widths_of<'a>(f: Facts, n: usize, cabinet: &'a [u8], house: &'a [u8]) -> [usize; WIDTHS]
+    requires { ⌜ n ≤ mostTasks ⌝ }
+{
+    let mut widths = [0usize; WIDTHS];
     let mut c: usize = 0;
-    while c < COLUMNS {
-        widths[c] = column_width(f, n, c);
+    while c < WIDTHS {
+        widths[c] = column_width(f, n, c, cabinet, house);
         c += 1;
     }
     widths
 }
 
-fn put_column_heading(buf: &mut [u8], at: usize, column: usize, width: usize) -> usize
+// A column of a row: its heading in row 0, else the cell of the job with the row's number.
+fn put_column(buf: &mut [u8], at: usize, f: Facts, row: usize, column: usize, width: usize) -> usize
     requires { ⌜ at ≤ length (now buf) ⌝ }
+    requires { ⌜ row ≤ mostTasks ⌝ }
     ensures { λ r. ⌜ r ≤ length (now (buf .entry)) ⌝ }
 {
     let start = cells::space(buf, at);
-    put_heading(buf, start, column, width)
+    if row == 0 {
+        return put_heading(buf, start, column, width);
+    }
+    cells::put_cell(buf, start, show_facts::cell(f, row - 1, column), width)
 }
 
-fn put_column_headings(buf: &mut [u8], at: usize, widths: [usize; COLUMNS]) -> usize
+fn put_columns(buf: &mut [u8], at: usize, f: Facts, row: usize, widths: [usize; WIDTHS]) -> usize
     requires { ⌜ at ≤ length (now buf) ⌝ }
+    requires { ⌜ row ≤ mostTasks ⌝ }
     ensures { λ r. ⌜ r ≤ length (now (buf .entry)) ⌝ }
 {
     let mut end = at;
     let mut c: usize = 0;
     while c < COLUMNS {
-        end = put_column_heading(buf, end, c, widths[c]);
+        end = put_column(buf, end, f, row, c, widths[c]);
         c += 1;
     }
     end
 }
 
-fn put_headings(buf: &mut [u8], at: usize, names: usize, widths: [usize; COLUMNS]) -> usize
+fn put_headings(buf: &mut [u8], at: usize, f: Facts, widths: [usize; WIDTHS]) -> usize
     requires { ⌜ at ≤ length (now buf) ⌝ }
     ensures { λ r. ⌜ r ≤ length (now (buf .entry)) ⌝ }
 {
     let first = say::word(buf, at, b"no name");
-    let named = cells::pad(buf, first, 4, names);
-    let rest = put_column_headings(buf, named, widths);
+    let named = cells::pad(buf, first, 4, widths[NAMES]);
+    let rest = put_columns(buf, named, f, 0, widths);
     say::word(buf, rest, b" regions\n")
-}
-
-fn put_column(buf: &mut [u8], at: usize, cell: Cell, width: usize) -> usize
-    requires { ⌜ at ≤ length (now buf) ⌝ }
-    ensures { λ r. ⌜ r ≤ length (now (buf .entry)) ⌝ }
-{
-    let start = cells::space(buf, at);
-    cells::put_cell(buf, start, cell, width)
-}
-
-fn put_columns(buf: &mut [u8], at: usize, f: Facts, k: usize, widths: [usize; COLUMNS]) -> usize
-    requires { ⌜ at ≤ length (now buf) ⌝ }
-    requires { ⌜ k < mostTasks ⌝ }
-    ensures { λ r. ⌜ r ≤ length (now (buf .entry)) ⌝ }
-{
-    let mut end = at;
-    let mut c: usize = 0;
-    while c < COLUMNS {
-        end = put_column(buf, end, show_facts::cell(f, k, c), widths[c]);
-        c += 1;
-    }
-    end
-}
-
-fn put_plus(buf: &mut [u8], at: usize, x: u32) -> usize
-    requires { ⌜ at ≤ length (now buf) ⌝ }
-    ensures { λ r. ⌜ r ≤ length (now (buf .entry)) ⌝ }
-{
-    let plus = say::word(buf, at, b"+");
-    say::decimal(buf, plus, x as u64)
-}
-
-fn put_more(buf: &mut [u8], at: usize, words: &[u32]) -> usize
-    requires { ⌜ at ≤ length (now buf) ⌝ }
-    ensures { λ r. ⌜ r ≤ length (now (buf .entry)) ⌝ }
-{
-    let mut end = at;
-    let mut i: usize = 0;
-    while i < words.len() {
-        end = put_plus(buf, end, words[i]);
-        i += 1;
-    }
-    end
 }
 
 fn put_first(buf: &mut [u8], at: usize, x: u32) -> usize
@@ -154,7 +143,7 @@ fn put_regions(buf: &mut [u8], at: usize, words: &[u32]) -> usize
         return at;
     }
     let first = put_first(buf, at, words[0]);
-    put_more(buf, first, &words[1..])
+    say::marked_words(buf, first, b'+', &words[1..])
 }
 
 fn put_job_name<'a>(
@@ -162,7 +151,7 @@ fn put_job_name<'a>(
     at: usize,
     t: Table,
     k: usize,
-    names: usize,
+    width: usize,
     cabinet: &'a [u8],
     house: &'a [u8],
 ) -> usize
@@ -170,11 +159,9 @@ fn put_job_name<'a>(
     requires { ⌜ k < mostTasks ⌝ }
     ensures { λ r. ⌜ r ≤ length (now (buf .entry)) ⌝ }
 {
-    let rs = t.records;
-    let r = rs[k];
     let numbered = cells::put_cell(buf, at, Cell::Number(k as u64 + 1), 2);
     let start = cells::space(buf, numbered);
-    names::put(buf, start, r.name, cabinet, house, names)
+    names::put(buf, start, name_number(t, k), cabinet, house, width)
 }
 
 fn put_job_regions<'a>(
@@ -194,17 +181,12 @@ fn put_job_regions<'a>(
     say::newline(buf, said)
 }
 
-struct Widths {
-    names: usize,
-    columns: [usize; COLUMNS],
-}
-
 fn put_job<'a, 'b>(
     buf: &mut [u8],
     at: usize,
     f: Facts,
     k: usize,
-    widths: Widths,
+    widths: [usize; WIDTHS],
     own: &'a [u32],
     catalogue: &'a [u32],
     cabinet: &'b [u8],
@@ -215,9 +197,8 @@ fn put_job<'a, 'b>(
     ensures { λ r. ⌜ r ≤ length (now (buf .entry)) ⌝ }
 {
     let t = f.table;
-    let named = put_job_name(buf, at, t, k, widths.names, cabinet, house);
-    let columns = widths.columns;
-    let told = put_columns(buf, named, f, k, columns);
+    let named = put_job_name(buf, at, t, k, widths[NAMES], cabinet, house);
+    let told = put_columns(buf, named, f, k + 1, widths);
     put_job_regions(buf, told, t, k, own, catalogue)
 }
 
@@ -226,18 +207,19 @@ fn put_table<'a, 'b>(
     at: usize,
     f: Facts,
     n: usize,
-    widths: Widths,
+    widths: [usize; WIDTHS],
     own: &'a [u32],
     catalogue: &'a [u32],
     cabinet: &'b [u8],
     house: &'b [u8],
 ) -> usize
     requires { ⌜ at ≤ length (now buf) ⌝ }
+    requires { ⌜ n ≤ mostTasks ⌝ }
     ensures { λ r. ⌜ r ≤ length (now (buf .entry)) ⌝ }
 {
     let mut end = at;
     let mut k: usize = 0;
-    while k < MOST_TASKS && k < n {
+    while k < n {
         end = put_job(buf, end, f, k, widths, own, catalogue, cabinet, house);
         k += 1;
     }
@@ -336,13 +318,10 @@ pub fn put_sheet<'a, 'b>(
     requires { ⌜ at ≤ length (now buf) ⌝ }
     ensures { λ r. ⌜ r ≤ length (now (buf .entry)) ⌝ }
 {
-    let n = t.n;
-    let rs = t.records;
+    let n = show_facts::jobs_of(t);
     let f = show_facts::facts_of(t, own, catalogue);
-    let names = names::column_width(rs, n, cabinet, house);
-    let columns = widths_of(f, n);
-    let headed = put_headings(buf, at, names, columns);
-    let widths = Widths { names, columns };
+    let widths = widths_of(f, n, cabinet, house);
+    let headed = put_headings(buf, at, f, widths);
     let listed = put_table(buf, headed, f, n, widths, own, catalogue, cabinet, house);
     put_end(buf, listed, f)
 }

@@ -47,12 +47,12 @@ pub fn put_decimal(buf: &mut [u8], at: usize, x: u64) -> usize
     put_all(buf, at, &digits[..k])
 }
 
-// A space and a number.
-pub fn put_next(buf: &mut [u8], at: usize, x: u64) -> usize
+// A mark and a number behind it.
+pub fn put_marked(buf: &mut [u8], at: usize, mark: u8, x: u64) -> usize
     requires { ⌜ at ≤ length (now buf) ⌝ }
     ensures { λ r. ⌜ Put (length (now (buf .entry))) at r ⌝ }
 {
-    let end = put(buf, at, b' ');
+    let end = put(buf, at, mark);
     put_decimal(buf, end, x)
 }
 

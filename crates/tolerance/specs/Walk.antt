@@ -2,21 +2,12 @@
 use Prim.Native.Nat.{ℕ, _+_, _-_, _*_, _/_, _≤_, _<_, min}
 use mathlib.Core.Path.{_≡_}
 use mathlib.Core.Bool.{Bool, cond}
-use mathlib.Core.List.{List}
 use lib.Dec.{leb, ltb}
 use lib.IntN.{ℤ, subℕ}
 use Rattle.paper.specs.Numbers.{mostTasks, mostTicks, Assignment}
 use Rattle.paper.specs.Analysis.{Tasks, by, load}
 use Rattle.paper.specs.Lengths.{largest, slack, tolerance}
-use Rattle.columns.specs.Columns.{Between}
 use Rattle.tolerance.specs.declared.Slack.{Slack}
-
--- columns that the walk may run on
-pub record Usable (n : ℕ) (cs ts ds : List ℕ) : Type 0 where
-  pub few : n ≤ mostTasks
-  pub costs : Between 1 mostTicks n cs
-  pub periods : Between 1 mostTicks n ts
-  pub deadlines : Between 1 mostTicks n ds
 
 -- the most that one task adds to a need, and the most that a task and all above it need
 abbrev pub mostPart : ℕ

@@ -1,14 +1,17 @@
 // The tolerances of the tasks whose numbers stand in columns.
 ghost use mathlib.Core.Path.{_≡_};
-ghost use mathlib.Core.List.{[]};
 ghost use Prim.Native.Nat.{_+_, _*_, _≤_, _<_, min};
 ghost use lib.IntN.{pos};
-ghost use lib.ListN.{getD};
 ghost use Rattle.paper.specs.Numbers.{mostTicks, perTask};
 ghost use Rattle.paper.specs.Lengths.{tolerance};
-ghost use Rattle.columns.specs.Columns.{tasksBy, assignedBy};
-ghost use Rattle.tolerance.specs.Walk.{Usable, mostNeed, mostPart, valueOf, largerOf, withTask, Stretch, Tolerated};
+ghost use Rattle.columns.specs.Columns.{tasksBy, rankedBy, Ranged};
+ghost use Rattle.tolerance.specs.Walk.{mostNeed, mostPart, valueOf, largerOf, withTask, Stretch, Tolerated};
+use columns::Numbers;
+use columns::Tasks;
 use paper::MOST_TASKS;
+
+// One signed number for each task.
+pub type Ticks = [i64; MOST_TASKS];
 
 // One of the differences that a tolerance is the largest of: `at` less `need`, which may be below zero.
 struct Slack {
@@ -47,51 +50,38 @@ fn with_task(s: Slack, above: bool, cost: u64, period: u64, from: u64) -> Slack
 }
 
 // From `from` on to the next arrival of a task above i, or to the deadline: no ceiling steps on the way.
-fn stretch(
-    costs: &[u64; MOST_TASKS],
-    periods: &[u64; MOST_TASKS],
-    deadlines: &[u64; MOST_TASKS],
-    priorities: &[u64; MOST_TASKS],
-    n: usize,
-    i: usize,
-    from: u64,
-) -> Slack
-    requires { ⌜ Usable n (now costs) (now periods) (now deadlines) ⌝ }
+fn stretch(n: usize, y: &Tasks, p: &Numbers, i: usize, from: u64) -> Slack
+    requires { ⌜ Ranged (tasksBy n (now y)) ⌝ }
     requires { ⌜ i < n ⌝ }
-    requires { ⌜ from < getD (now deadlines) i 0 ⌝ }
-    ensures { λ r. ⌜ Stretch (tasksBy n (now (costs .entry)) (now (periods .entry)) (now (deadlines .entry))) (assignedBy (now (priorities .entry)) []) i from r ⌝ }
+    requires { ⌜ from < tasksBy n (now y) .d i ⌝ }
+    ensures { λ r. ⌜ Stretch (tasksBy n (now (y .entry))) (rankedBy (now (p .entry))) i from r ⌝ }
 {
-    let p = priorities[i];
+    let rank = p[i];
     let mut s = Slack {
-        at: deadlines[i],
-        need: costs[i],
+        at: columns::deadline(y, i),
+        need: columns::cost(y, i),
     };
     let mut j: usize = 0;
     while j < n {
-        s = with_task(s, priorities[j] < p, costs[j], periods[j], from);
+        let c = columns::cost(y, j);
+        let t = columns::period(y, j);
+        s = with_task(s, p[j] < rank, c, t, from);
         j += 1;
     }
     s
 }
 
 // Between two ends of stretches the difference only rises, so the walk looks at the ends alone.
-fn tolerance_of(
-    costs: &[u64; MOST_TASKS],
-    periods: &[u64; MOST_TASKS],
-    deadlines: &[u64; MOST_TASKS],
-    priorities: &[u64; MOST_TASKS],
-    n: usize,
-    i: usize,
-) -> Slack
-    requires { ⌜ Usable n (now costs) (now periods) (now deadlines) ⌝ }
+fn tolerance_of(n: usize, y: &Tasks, p: &Numbers, i: usize) -> Slack
+    requires { ⌜ Ranged (tasksBy n (now y)) ⌝ }
     requires { ⌜ i < n ⌝ }
-    ensures { λ r. ⌜ Tolerated (tasksBy n (now (costs .entry)) (now (periods .entry)) (now (deadlines .entry))) (assignedBy (now (priorities .entry)) []) i r ⌝ }
+    ensures { λ r. ⌜ Tolerated (tasksBy n (now (y .entry))) (rankedBy (now (p .entry))) i r ⌝ }
 {
-    let last = deadlines[i];
-    let mut best = stretch(costs, periods, deadlines, priorities, n, i, 0);
+    let last = columns::deadline(y, i);
+    let mut best = stretch(n, y, p, i, 0);
     let mut here = best.at;
     while here < last {
-        let s = stretch(costs, periods, deadlines, priorities, n, i, here);
+        let s = stretch(n, y, p, i, here);
         best = larger(best, s);
         here = s.at;
     }
@@ -106,20 +96,14 @@ fn signed(s: Slack) -> i64
 }
 
 // The tolerances of records 1 to n, each worked out once.
-pub fn all_tolerances(
-    costs: &[u64; MOST_TASKS],
-    periods: &[u64; MOST_TASKS],
-    deadlines: &[u64; MOST_TASKS],
-    priorities: &[u64; MOST_TASKS],
-    n: usize,
-) -> [i64; MOST_TASKS]
-    requires { ⌜ Usable n (now costs) (now periods) (now deadlines) ⌝ }
-    ensures { λ r. ⌜ r ≡ perTask n (tolerance (tasksBy n (now (costs .entry)) (now (periods .entry)) (now (deadlines .entry))) (assignedBy (now (priorities .entry)) [])) (pos 0) ⌝ }
+pub fn all_tolerances(n: usize, y: &Tasks, p: &Numbers) -> Ticks
+    requires { ⌜ Ranged (tasksBy n (now y)) ⌝ }
+    ensures { λ r. ⌜ r ≡ perTask n (tolerance (tasksBy n (now (y .entry))) (rankedBy (now (p .entry)))) (pos 0) ⌝ }
 {
     let mut ticks = [0i64; MOST_TASKS];
     let mut i: usize = 0;
     while i < n {
-        ticks[i] = signed(tolerance_of(costs, periods, deadlines, priorities, n, i));
+        ticks[i] = signed(tolerance_of(n, y, p, i));
         i += 1;
     }
     ticks

@@ -2,7 +2,7 @@
 use Prim.{tt}
 use mathlib.Core.Path.{_≡_, refl}
 use mathlib.Core.Logic.{_⊎_, inl, inr, ⊎-elim}
-use mathlib.Core.Bool.{Bool, true, false, not, _&&_, _||_}
+use mathlib.Core.Bool.{Bool, true, false, _&&_, _||_}
 use mathlib.Core.List.{List}
 use Prim.Native.Nat.{ℕ, _+_, _^_, _≤_, _<_}
 use native.Mathlib.Nat.{zero-add}
@@ -11,15 +11,15 @@ use borrow.Author.Tests.{eqb-true, leb-true}
 use lib.Dec.{leb, eqb}
 use lib.ListN.{length, getD}
 use Rattle.paper.specs.Numbers.{mostTasks, mostName, mostTicks, rec, ticksInRange, recordInRange, eachOnce, thresholdsHold, assigned, unassigned, assignmentHolds}
-use Rattle.paper.specs.Vocabulary.{every}
 use Rattle.paper.specs.Regions.{listOf, wordsInRange, wordsSum, regionsHold, recordRegionsHold, allRegionsHold}
 use Rattle.paper.specs.File.{recordWidths, recordValues, sourceBit}
 use Rattle.paper.specs.declared.Source.{Source}
 use Rattle.paper.specs.declared.Source.the-variants.{Own, Catalogue}
 use Rattle.paper.specs.declared.Record.{Record}
 use Rattle.paper.specs.declared.Table.{Table}
-use Rattle.paper.proofs.Tests.{both, within, every-says}
+use Rattle.paper.proofs.Tests.{both, _and_, within, every-says}
 use Rattle.bits.specs.Fields.{AllFit}
+use Rattle.paper.proofs.Formed.{each-once-range, threshold-range}
 use Rattle.paper.proofs.Writing.{Taken}
 use Rattle.trips.proofs.Made.{Fits}
 
@@ -35,7 +35,6 @@ record Levels (r : Record) : Type 0 where
   pub threshold : r .threshold < 2 ^ 4
 
 levels-fit : (rs : List Record) (n : ℕ) → n ≤ mostTasks → assignmentHolds rs n ≡ true → (k : ℕ) → k < n → Levels (rec rs k)
-unfolding eachOnce thresholdsHold
 levels-fit rs n h e k l =
     ⊎-elim
     (λ (u : unassigned rs n ≡ true).
@@ -45,11 +44,8 @@ levels-fit rs n h e k l =
     record { priority = omega arith; threshold = omega arith })
     (λ (a : (eachOnce n (assigned rs .p) && thresholdsHold n (assigned rs)) ≡ true).
     let b = both _ _ a in
-    let o = both _ (every n (λ j. every j (λ i. not (eqb (rec rs i .priority) (rec rs j .priority))))) (b .0) in
-    let x = within 1 n (rec rs k .priority) (every-says n (λ j. leb 1 (rec rs j .priority) && leb (rec rs j .priority) n) (o .0) k l) in
-    let y =
-    within 1 (rec rs k .priority) (rec rs k .threshold)
-    (every-says n (λ j. leb 1 (rec rs j .threshold) && leb (rec rs j .threshold) (rec rs j .priority)) (b .1) k l) in
+    let x = each-once-range n (assigned rs .p) (b .0) k l in
+    let y = threshold-range n (assigned rs) (b .1) k l in
     record { priority = omega arith; threshold = omega arith })
     (either _ _ e)
   where
@@ -90,25 +86,18 @@ record-fits r e v d =
     let a = both _ _ e in
     let b = both _ _ (a .1) in
     let c = both _ _ (b .1) in
-    let x : r .name ≤ mostName = leb-true _ _ (c .1) in (
-      ticks-fit _ (a .0),
-      (
-        ticks-fit _ (b .0),
-        (
-          ticks-fit _ (c .0),
-          (
-            v .priority,
-            (
-              v .threshold,
-              (
-                source-fits (r .source),
-                (d .first, (d .count, (omega arith, (omega arith, tt)))),
-              ),
-            ),
-          ),
-        ),
-      ),
-    )
+    let x : r .name ≤ mostName = leb-true _ _ (c .1) in
+    ticks-fit _ (a .0)
+    and ticks-fit _ (b .0)
+    and ticks-fit _ (c .0)
+    and v .priority
+    and v .threshold
+    and source-fits (r .source)
+    and d .first
+    and d .count
+    and omega arith
+    and omega arith
+    and tt
 
 pub taken-fits : (t : Table) (cabinet line : ℕ) (own catalogue : List ℕ) (room : ℕ) → Taken t cabinet own catalogue room → line < 2 ^ 16 → Fits t cabinet line own
 taken-fits t cabinet line own catalogue room w l =
@@ -121,5 +110,5 @@ taken-fits t cabinet line own catalogue room w l =
       records-fit = λ k i.
           record-fits (rec (t .records) k) (every-says (t .n) (λ j. recordInRange (rec (t .records) j)) (w .ranges) k i)
           (levels-fit (t .records) (t .n) (w .few-tasks) (w .assignment) k i) (named-fit own catalogue (rec (t .records) k) (h .each k i));
-      words-fit = λ k i. ticks-fit (getD own k 0) (h .words k i);
+      words-fit = λ k i. ticks-fit (getD own k 0) (h .words k i) and tt;
     }

@@ -1,3 +1,4 @@
+pub mod Blocks
 pub mod One
 pub mod Made
 pub mod Fits

@@ -2,25 +2,25 @@
 use mathlib.Core.Path.{_≡_, refl, sym}
 use mathlib.Core.Bool.{true}
 use mathlib.Core.List.{List}
-use Prim.Native.Nat.{ℕ, zero, suc, _+_, _-_, _<_}
+use Prim.Native.Nat.{ℕ, zero, suc, _-_, _<_}
 use native.Mathlib.Omega.{arith}
 use borrow.Author.Tests.{eqb-true}
 use lib.Dec.{eqb}
 use lib.ListN.{length, getD}
 use Rattle.paper.specs.Numbers.{zeroRecord, rec}
 use Rattle.paper.specs.Bits.{field}
-use Rattle.paper.specs.File.{recordWidths, recordValues, sourceBit, sourceOf, recordIn, recordAt, wordAt, fillerWidth, fileLength, spareClear, tasksIn, wordsIn, regionWords, recordsIn, tableIn}
+use Rattle.paper.specs.File.{headFields, recordValues, recordFields, recordFrom, sourceBit, sourceOf, recordIn, wordAt, fillerWidth, fileLength, spareClear, tasksIn, wordsIn, regionWords, recordsIn, tableIn}
 use Rattle.paper.specs.declared.Source.{Source}
 use Rattle.paper.specs.declared.Source.the-variants.{Own, Catalogue}
 use Rattle.paper.specs.declared.Record.{Record}
 use Rattle.paper.proofs.Tests.{both, every-says}
 use Rattle.laws.proofs.Lists.{list-length, list-at, per-task-at}
-use Rattle.bits.specs.Fields.{fieldsAt, Bytes}
+use Rattle.bits.specs.Fields.{Bytes}
 use Rattle.bits.proofs.Field.{field-lt}
 use Rattle.trips.proofs.One.{IsFile}
 use Rattle.paper.proofs.Reading.{Loaded}
 
--- Records and their ten fields
+-- A record and its ten values
 
 source-bit : (b : ℕ) → b < 2 → sourceBit (sourceOf b) ≡ b
 source-bit zero h = refl
@@ -31,43 +31,11 @@ source-trip : (q : Source) → sourceOf (sourceBit q) ≡ q
 source-trip Own = refl
 source-trip Catalogue = refl
 
-module _ (f : List ℕ) (k : ℕ) where
-  -- where each field after the first begins, as `fieldsAt` counts and as the paper's layout is written
-  record Places : Type 0 where
-    pub deadline : recordAt k + 20 + 20 ≡ recordAt k + 40
-    pub priority : recordAt k + 20 + 20 + 20 ≡ recordAt k + 60
-    pub threshold : recordAt k + 20 + 20 + 20 + 4 ≡ recordAt k + 64
-    pub source : recordAt k + 20 + 20 + 20 + 4 + 4 ≡ recordAt k + 68
-    pub first : recordAt k + 20 + 20 + 20 + 4 + 4 + 1 ≡ recordAt k + 69
-    pub count : recordAt k + 20 + 20 + 20 + 4 + 4 + 1 + 7 ≡ recordAt k + 76
-    pub name : recordAt k + 20 + 20 + 20 + 4 + 4 + 1 + 7 + 7 ≡ recordAt k + 83
-    pub spare : recordAt k + 20 + 20 + 20 + 4 + 4 + 1 + 7 + 7 + 7 ≡ recordAt k + 90
+pub record-trip : (r : Record) → recordFrom (recordValues r) ≡ r
+record-trip r = rw (source-trip (r .source))
 
-  places : Places
-  places = omega arith
-
-  record-fields : field f (recordAt k + 90) 6 ≡ 0 → fieldsAt f (recordAt k) recordWidths ≡ recordValues (recordIn f k)
-  record-fields z =
-      let p = places in
-      let q = source-bit (field f (recordAt k + 68) 1) (field-lt f (recordAt k + 68) 1) in
-      rw (q, p .spare, p .name, p .count, p .first, p .source, p .threshold, p .priority, p .deadline, z)
-
-  pub fields-record : (r : Record) → fieldsAt f (recordAt k) recordWidths ≡ recordValues r → (recordIn f k ≡ r) × (field f (recordAt k + 90) 6 ≡ 0)
-  fields-record r e =
-      let p = places in
-      let q = source-trip (r .source) in
-      let g : recordIn f k ≡ record {
-        cost = r .cost;
-        period = r .period;
-        deadline = r .deadline;
-        priority = r .priority;
-        threshold = r .threshold;
-        source = r .source;
-        first = r .first;
-        count = r .count;
-        name = r .name;
-      } = cc in
-      (g, cc)
+values-trip : (f : List ℕ) (k : ℕ) → getD (recordFields f k) 9 0 ≡ 0 → recordValues (recordIn f k) ≡ recordFields f k
+values-trip f k z = rw (source-bit (getD (recordFields f k) 5 0) (field-lt f _ 1), z)
 
 -- A file that reads
 
@@ -83,8 +51,8 @@ pub record-at : (f : List ℕ) (n k : ℕ) → k < n → rec (recordsIn f n) k �
 record-at f n k h = per-task-at n (recordIn f) zeroRecord zeroRecord k h
 
 record Spare (f : List ℕ) (n m : ℕ) : Type 0 where
-  pub head : field f 4 4 ≡ 0
-  pub records : (k : ℕ) → k < n → field f (recordAt k + 90) 6 ≡ 0
+  pub head : getD (headFields f) 1 0 ≡ 0
+  pub records : (k : ℕ) → k < n → getD (recordFields f k) 9 0 ≡ 0
   pub filler : field f (wordAt n m) (fillerWidth m) ≡ 0
 
 spare-says : (f : List ℕ) (n m : ℕ) → spareClear f n m ≡ true → Spare f n m
@@ -94,7 +62,7 @@ spare-says f n m e =
     let b = both _ _ (a .1) in
     record {
       head = eqb-true _ _ (a .0);
-      records = λ k h. eqb-true _ _ (every-says n (λ j. eqb (field f (recordAt j + 90) 6) 0) (b .0) k h);
+      records = λ k h. eqb-true _ _ (every-says n (λ j. eqb (getD (recordFields f j) 9 0) 0) (b .0) k h);
       filler = eqb-true _ _ (b .1);
     }
 
@@ -110,8 +78,8 @@ read-file f cabinet line catalogue room b r =
       bytes = b;
       size = rw c (r .size);
       head = rw (c, r .edition, s .head, r .cabinets, r .lines);
-      records = λ k l. rw (record-at f n k l) (record-fields f k (s .records k l));
-      words = λ k l. sym (word-at f n m k (omega arith));
+      has-records = λ k l. rw (record-at f n k l) (sym (values-trip f k (s .records k l)));
+      has-words = λ k l. rw (word-at f n m k (omega arith));
       filler = rw c (s .filler);
       seal = rw (c, ← z) (r .seal);
     }

@@ -8,7 +8,7 @@ use Rattle.paper.specs.Vocabulary.{listTo}
 use Rattle.paper.specs.Numbers.{mostWords}
 use Rattle.paper.specs.Bits.{field}
 use Rattle.paper.specs.File.{wordAt, regionWords}
-use Rattle.laws.proofs.Lists.{list-length, fill-more}
+use Rattle.laws.proofs.Lists.{list-length, fill-turn}
 use Rattle.unpack.specs.Unpack.{wordsArray}
 
 pub words-length : (f : List ℕ) (n m : ℕ) → length (regionWords f n m) ≡ m
@@ -23,10 +23,7 @@ array-none f n = refl
 pub array-turn : (f : List ℕ) (n k : ℕ) {ws : List ℕ} {w : ℕ} → k < mostWords
     → ws ≡ wordsArray f n k → w ≡ field f (wordAt n k) 20 → set ws k w ≡ wordsArray f n (k + 1)
 unfolding wordsArray regionWords
-array-turn f n k h e g = rw (e, g) (fill-more mostWords k (λ k. field f (wordAt n k) 20) 0 h)
-
-pub array-done : (f : List ℕ) (n k m : ℕ) {ws : List ℕ} → ws ≡ wordsArray f n k → k ≡ m → ws ≡ wordsArray f n m
-array-done f n k m e h = rw (← h) e
+array-turn f n k h e g = fill-turn mostWords k _ 0 h e g
 
 -- the front of the array is the words
 pub array-front : (f : List ℕ) (n m : ℕ) {ws : List ℕ} → ws ≡ wordsArray f n m → take m ws ≡ regionWords f n m

@@ -2,10 +2,10 @@
 ghost use mathlib.Core.Path.{_≡_};
 ghost use Prim.Native.Nat.{_+_, _<_};
 ghost use lib.Dec.{eqb};
+ghost use lib.ListN.{getD};
 ghost use Rattle.paper.specs.Vocabulary.{every};
 ghost use Rattle.paper.specs.Numbers.{zeroRecord};
-ghost use Rattle.paper.specs.Bits.{field};
-ghost use Rattle.paper.specs.File.{recordAt, recordIn, recordsIn, sourceOf, spareClear};
+ghost use Rattle.paper.specs.File.{recordFields, recordIn, recordsIn, sourceOf, spareClear};
 ghost use Rattle.paper.specs.Answers.{noTable};
 ghost use Rattle.unpack.specs.Unpack.{Sized, Holds, wordsArray};
 use paper::Record;
@@ -112,7 +112,7 @@ pub fn words_in(f: &[u8], n: usize, m: usize) -> [u32; paper::MOST_WORDS]
 
 fn records_spare_clear(f: &[u8], n: usize) -> bool
     requires { ⌜ Holds (now f) n ⌝ }
-    ensures { λ r. ⌜ r ≡ every n (λ k. eqb (field (now (f .entry)) (recordAt k + 90) 6) 0) ⌝ }
+    ensures { λ r. ⌜ r ≡ every n (λ k. eqb (getD (recordFields (now (f .entry)) k) 9 0) 0) ⌝ }
 {
     let mut ok = true;
     let mut k: usize = 0;

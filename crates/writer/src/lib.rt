@@ -44,7 +44,7 @@ fn outcome_of(t: Table, cabinet: Cabinet, own: &[u32], catalogue: &[u32], room: 
     if !checks::assignment_holds(rs, n) {
         return Outcome::Refused(Refusal::BadAssignment);
     }
-    if !checks::all_regions_hold(rs, n, own, catalogue) {
+    if !regions::all_regions_hold(rs, n, own, catalogue) {
         return Outcome::Refused(Refusal::BadRegions);
     }
     if room < layout::file_length(n, m) {

@@ -4,7 +4,7 @@ use mathlib.Core.Path.{_≡_, refl, ap, sym, _∙_}
 use native.Mathlib.Omega.{arith}
 use lib.ListN.{length}
 use Rattle.paper.specs.Bits.{putField}
-use Rattle.bits.proofs.Putting.{put-length}
+use Rattle.bits.proofs.Putting.{put-only}
 use Rattle.bits.proofs.Steps.{put-step, put-done}
 use Rattle.bits.proofs.put.Statement.{statement}
 use Rattle.bits.proofs.put.Tie as tie
@@ -41,7 +41,7 @@ loop-again c =
     let l = c .before .before .before .before .before .before .loop in
     let e = c .before .before .put-part .ensures in (
       omega arith,
-      ap length e ∙ put-length _ _ _ _ ∙ l .inv .1,
+      ap length e ∙ put-only _ _ _ _ .size ∙ l .inv .1,
       rw e (put-step _ _ _ _ _ (omega arith) ∙ l .inv .2),
     )
 

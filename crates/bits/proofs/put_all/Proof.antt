@@ -5,7 +5,7 @@ use native.Mathlib.Omega.{arith}
 use lib.ListN.{length, drop}
 use Rattle.paper.specs.Bits.{putFields}
 use Rattle.bits.specs.Fields.{total}
-use Rattle.bits.proofs.Putting.{put-length}
+use Rattle.bits.proofs.Putting.{put-only}
 use Rattle.bits.proofs.Steps.{total-drop, all-step, all-done}
 use Rattle.bits.proofs.put_all.Statement.{statement}
 use Rattle.bits.proofs.put_all.Tie as tie
@@ -55,7 +55,7 @@ loop-again c =
     let a = l .before .before .before .before .args in
     let e = c .before .before .put .ensures in (
       omega arith,
-      ap length e ∙ put-length _ _ _ _ ∙ l .loop .inv .1,
+      ap length e ∙ put-only _ _ _ _ .size ∙ l .loop .inv .1,
       omega (arith, l .loop .inv, total-drop (a .widths .now) (l .loop .i) (omega arith)),
       rw e (all-step _ _ (a .widths .now) (a .values .now) (l .loop .i) (omega arith) (omega arith) ∙ l .loop .inv .3),
     )

@@ -4,7 +4,7 @@ use mathlib.Core.Path.{_≡_, refl}
 use Rattle.paper.specs.Numbers.{rec}
 use Rattle.checks.specs.Tests.{passesTest}
 use Rattle.paper.specs.Vocabulary.{every}
-use Rattle.laws.proofs.Every.{every-turn, every-done}
+use Rattle.laws.proofs.Every.{at-end, every-turn}
 use borrow.Author.Needs.{needs}
 use native.Mathlib.Omega.{arith}
 use Rattle.checks.proofs.all_pass.Statement.{statement}
@@ -39,7 +39,7 @@ loop-again : tie.Need-loop-again Inv-loop μ-loop
 loop-again c = (omega arith, every-turn _ _ (c .before .before .before .loop .inv .1) (c .passes .ensures))
 
 returns : tie.Need-returns Inv-loop μ-loop
-returns c = every-done _ _ _ (c .before .loop .inv .1) (omega arith)
+returns c = at-end every _ _ (c .before .loop .inv .1) (omega arith)
 
 pub all-pass-spec : {M : Type 1} → statement M
 all-pass-spec =

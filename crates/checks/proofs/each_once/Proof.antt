@@ -6,7 +6,7 @@ use lib.Dec.{leb, eqb}
 use lib.ListN.{getD}
 use Rattle.paper.specs.Vocabulary.{every}
 use Rattle.paper.specs.Numbers.{eachOnce}
-use Rattle.laws.proofs.Every.{every-turn, every-done}
+use Rattle.laws.proofs.Every.{at-end, every-turn}
 use borrow.Author.Needs.{needs}
 use native.Mathlib.Omega.{arith}
 use Rattle.checks.proofs.each_once.Statement.{statement}
@@ -47,8 +47,8 @@ returns : tie.Need-returns Inv-loop μ-loop
 unfolding eachOnce
 returns c =
     ap₂ _&&_
-    (every-done _ _ _ (c .before .loop .inv .1) (omega arith))
-    (every-done _ _ _ (c .before .loop .inv .2) (omega arith))
+    (at-end every _ _ (c .before .loop .inv .1) (omega arith))
+    (at-end every _ _ (c .before .loop .inv .2) (omega arith))
 
 pub each-once-spec : {M : Type 1} → statement M
 each-once-spec =

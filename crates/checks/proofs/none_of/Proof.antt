@@ -5,7 +5,7 @@ use mathlib.Core.Bool.{not}
 use lib.Dec.{eqb}
 use lib.ListN.{getD}
 use Rattle.paper.specs.Vocabulary.{every}
-use Rattle.laws.proofs.Every.{every-turn, every-done}
+use Rattle.laws.proofs.Every.{at-end, every-turn}
 use native.Mathlib.Omega.{arith}
 use Rattle.checks.proofs.none_of.Statement.{statement}
 use Rattle.checks.proofs.none_of.Tie as tie
@@ -36,7 +36,7 @@ loop-again : tie.Need-loop-again Inv-loop μ-loop
 loop-again c = (omega arith, every-turn _ _ (c .before .before .loop .inv .1) refl)
 
 returns : tie.Need-returns Inv-loop μ-loop
-returns c = every-done _ _ _ (c .before .loop .inv .1) (omega arith)
+returns c = at-end every _ _ (c .before .loop .inv .1) (omega arith)
 
 pub none-of-spec : {M : Type 1} → statement M
 none-of-spec =

@@ -6,7 +6,7 @@ use lib.Dec.{leb}
 use lib.ListN.{getD}
 use Rattle.paper.specs.Vocabulary.{every}
 use Rattle.paper.specs.Numbers.{thresholdsHold}
-use Rattle.laws.proofs.Every.{every-turn, every-done}
+use Rattle.laws.proofs.Every.{at-end, every-turn}
 use native.Mathlib.Omega.{arith}
 use Rattle.checks.proofs.thresholds_hold.Statement.{statement}
 use Rattle.checks.proofs.thresholds_hold.Tie as tie
@@ -44,7 +44,7 @@ loop-again c = (omega arith, every-turn _ _ (c .before .before .before .loop .in
 
 returns : tie.Need-returns Inv-loop μ-loop
 unfolding thresholdsHold
-returns c = every-done _ _ _ (c .before .loop .inv .1) (omega arith)
+returns c = at-end every _ _ (c .before .loop .inv .1) (omega arith)
 
 pub thresholds-hold-spec : {M : Type 1} → statement M
 thresholds-hold-spec =

@@ -2,6 +2,7 @@ use Prim.Native.Nat.{_+_, _-_}
 use mathlib.Core.Path.{ap}
 use native.Mathlib.Omega.{arith}
 use borrow.Author.Needs.{needs}
+use Rattle.columns.specs.Columns.{tasksBy, rankedBy}
 use Rattle.climb.specs.Work.{side}
 use Rattle.climb.proofs.Works.{work-bound}
 use Rattle.climb.proofs.side.Statement.{statement}
@@ -20,7 +21,7 @@ add-result c =
     omega (
       arith,
       c .before .work .ensures,
-      work-bound (a .n) (a .c .now) (a .t .now) (a .p .now) (a .e .limit) (s .pre .0) (a .x + a .e .edge) (omega (arith, s .pre .1, s .pre .2 .edge)),
+      work-bound (tasksBy (a .n) (a .y .now)) (rankedBy (a .p .now)) (a .e .limit) (s .pre .0) (a .x + a .e .edge) (omega (arith, s .pre .1, s .pre .2 .edge)),
       s .pre .2 .base,
     )
 

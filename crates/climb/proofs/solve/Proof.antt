@@ -4,16 +4,17 @@ use mathlib.Core.Path.{sym}
 use native.Mathlib.Omega.{arith}
 use Rattle.paper.specs.Numbers.{horizon}
 use Rattle.laws.proofs.Least.{Climb, climb-start, climb-again, climb-less, climb-found, climb-beyond, least-none}
-use Rattle.climb.specs.Work.{timesBy, side, solution}
+use Rattle.columns.specs.Columns.{tasksBy, rankedBy}
+use Rattle.climb.specs.Work.{side, solution}
 use Rattle.climb.proofs.Works.{side-le, rises-on}
 use Rattle.climb.proofs.solve.Statement.{statement}
 use Rattle.climb.proofs.solve.Tie as tie
 
 abbrev Inv-loop : tie.InvT-loop
-Inv-loop n c t p e from x₀ x = Climb (side (timesBy n c t) p e) from x
+Inv-loop n y p e from x₀ x = Climb (side (tasksBy n y) (rankedBy p) e) from x
 
 abbrev μ-loop : tie.MeasureT-loop
-μ-loop n c t p e from x₀ x = horizon - x
+μ-loop n y p e from x₀ x = horizon - x
 
 returns : tie.Need-returns Inv-loop μ-loop
 unfolding solution
@@ -27,7 +28,7 @@ side-requires c κs =
     let s = c .before .before in
     let a = s .args in
     let i = c .loop .inv in
-    (s .pre .0, i .high, rises-on (a .n) (a .c .now) (a .t .now) (a .p .now) (a .e) (a .from) _ (i .low) (i .rises) (s .pre .1))
+    (s .pre .0, i .high, rises-on (tasksBy (a .n) (a .y .now)) (rankedBy (a .p .now)) (a .e) (a .from) _ (i .low) (i .rises) (s .pre .1))
 
 returns-2 : tie.Need-returns-2 Inv-loop μ-loop
 unfolding solution
@@ -37,7 +38,7 @@ returns-3 : tie.Need-returns-3 Inv-loop μ-loop
 unfolding solution
 returns-3 c =
     let a = c .before .before .before .before .before .args in
-    climb-beyond _ _ _ _ (c .before .before .before .loop .inv) (c .before .before .side .ensures) _ (omega (arith, c .before .before .before .before .if1 .left)) (side-le (a .n) (a .c .now) (a .t .now) (a .p .now) (a .e)) (c .if3 .taken)
+    climb-beyond _ _ _ _ (c .before .before .before .loop .inv) (c .before .before .side .ensures) _ (omega (arith, c .before .before .before .before .if1 .left)) (side-le (tasksBy (a .n) (a .y .now)) (rankedBy (a .p .now)) (a .e)) (c .if3 .taken)
 
 loop-less : tie.Need-loop-less Inv-loop μ-loop
 loop-less c = climb-less _ _ _ _ (c .before .before .before .loop .inv) (c .before .before .side .ensures) (c .before .if2 .left) (c .if3 .left)
@@ -45,7 +46,7 @@ loop-less c = climb-less _ _ _ _ (c .before .before .before .loop .inv) (c .befo
 loop-again : tie.Need-loop-again Inv-loop μ-loop
 loop-again c =
     let a = c .before .before .before .before .before .args in
-    climb-again _ _ _ _ (c .before .before .before .loop .inv) (c .before .before .side .ensures) (side-le (a .n) (a .c .now) (a .t .now) (a .p .now) (a .e)) (c .if3 .left)
+    climb-again _ _ _ _ (c .before .before .before .loop .inv) (c .before .before .side .ensures) (side-le (tasksBy (a .n) (a .y .now)) (rankedBy (a .p .now)) (a .e)) (c .if3 .left)
 
 pub solve-spec : {M : Type 1} → statement M
 solve-spec =

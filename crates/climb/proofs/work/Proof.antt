@@ -4,20 +4,27 @@ use mathlib.Core.Path.{_≡_, sym, _∙_}
 use native.Mathlib.Omega.{arith}
 use borrow.Author.Needs.{needs}
 use Rattle.paper.specs.Vocabulary.{sumTo}
-use Rattle.laws.proofs.Every.{sum-turn, sum-done}
+use Rattle.laws.proofs.Every.{at-end, sum-turn}
 use Rattle.laws.proofs.Sums.{sum-none}
-use Rattle.climb.proofs.Works.{partOf, work-is, part-of-bound, sum-of-bound}
+use Rattle.columns.specs.Columns.{tasksBy, rankedBy}
+use Rattle.climb.proofs.Works.{partOf, part-is, work-is, part-of-bound, sum-of-bound}
 use Rattle.climb.proofs.work.Statement.{statement}
 use Rattle.climb.proofs.work.Tie as tie
 
 abbrev Inv-loop : tie.InvT-loop
-Inv-loop n c t p limit x total₀ j₀ total j = (j ≤ n) × (total ≡ sumTo j (partOf c t p limit x))
+Inv-loop n y p limit x total₀ j₀ total j = (j ≤ n) × (total ≡ sumTo j (partOf (tasksBy n y) (rankedBy p) limit x))
 
 abbrev μ-loop : tie.MeasureT-loop
-μ-loop n c t p limit x total₀ j₀ total j = n - j
+μ-loop n y p limit x total₀ j₀ total j = n - j
 
 loop-holds : tie.Need-loop-holds Inv-loop μ-loop
 loop-holds c = (search needs, sym (sum-none _))
+
+cost-requires : tie.Need-cost-requires Inv-loop μ-loop
+cost-requires c κs = search needs
+
+period-requires : tie.Need-period-requires Inv-loop μ-loop
+period-requires c κs = search needs
 
 mul-part : tie.Need-mul-part Inv-loop μ-loop
 mul-part c = omega arith
@@ -25,34 +32,25 @@ mul-part c = omega arith
 element-copy-out-part : tie.Need-element-copy-out-part Inv-loop μ-loop
 element-copy-out-part c = omega arith
 
-mul-part-2 : tie.Need-mul-part-2 Inv-loop μ-loop
-mul-part-2 c = omega arith
-
-element-copy-out-part-2 : tie.Need-element-copy-out-part-2 Inv-loop μ-loop
-element-copy-out-part-2 c = omega arith
-
-mul-part-3 : tie.Need-mul-part-3 Inv-loop μ-loop
-mul-part-3 c = omega arith
-
-element-copy-out-part-3 : tie.Need-element-copy-out-part-3 Inv-loop μ-loop
-element-copy-out-part-3 c = omega arith
-
 part-requires : tie.Need-part-requires Inv-loop μ-loop
 part-requires c κs =
     let s = c .before .before .before .before .before in
-    let r = s .pre .0 in
     let l = c .before .before .before .loop-test .taken in
-    (s .pre .1, r .periods .above _ l, r .periods .below _ l, r .costs .below _ l)
+    let t = s .pre .0 .periods _ l in
+    (s .pre .1, rw (c .before .period .ensures) (t .0), rw (c .before .period .ensures) (t .1), rw (c .before .before .cost .ensures) (s .pre .0 .costs _ l .1))
 
 add-total : tie.Need-add-total Inv-loop μ-loop
 add-total c =
     let s = c .before .before .before .before .before .before in
     let l = c .before .before .before .before .before .loop in
     let a = s .args in
+    let y = tasksBy (a .n) (a .y .now) in
+    let r = rankedBy (a .p .now) in
     omega (
       arith,
-      part-of-bound (a .n) (a .c .now) (a .t .now) (a .p .now) (a .limit) (s .pre .0) (a .x) (s .pre .1) (l .j) (c .before .before .before .before .loop-test .taken),
-      sum-of-bound (a .n) (a .c .now) (a .t .now) (a .p .now) (a .limit) (s .pre .0) (a .x) (s .pre .1) (l .j) (l .inv .0),
+      part-is y r (a .limit) (a .x) (l .j) (c .before .before .before .cost .ensures) (c .before .before .period .ensures) (c .part .ensures),
+      part-of-bound y r (a .limit) (s .pre .0) (a .x) (s .pre .1) (l .j) (c .before .before .before .before .loop-test .taken),
+      sum-of-bound y r (a .limit) (s .pre .0) (a .x) (s .pre .1) (l .j) (l .inv .0),
     )
 
 add-j : tie.Need-add-j Inv-loop μ-loop
@@ -62,13 +60,19 @@ loop-less : tie.Need-loop-less Inv-loop μ-loop
 loop-less c = search needs
 
 loop-again : tie.Need-loop-again Inv-loop μ-loop
-loop-again c = (search needs, sum-turn _ _ (c .before .before .before .before .before .loop .inv .1) (c .part .ensures))
+loop-again c =
+    let l = c .before .before .before .before .before .loop in
+    let a = c .before .before .before .before .before .before .args in (
+      search needs,
+      sum-turn _ _ (l .inv .1)
+          (part-is (tasksBy (a .n) (a .y .now)) (rankedBy (a .p .now)) (a .limit) (a .x) (l .j) (c .before .before .before .cost .ensures) (c .before .before .period .ensures) (c .part .ensures)),
+    )
 
 returns : tie.Need-returns Inv-loop μ-loop
 returns c =
     let a = c .before .before .args in
-    sum-done _ (a .n) _ (c .before .loop .inv .1) (omega arith)
-    ∙ sym (work-is (a .n) (a .c .now) (a .t .now) (a .p .now) (a .limit) (a .x))
+    at-end sumTo _ (a .n) (c .before .loop .inv .1) (omega arith)
+    ∙ sym (work-is (tasksBy (a .n) (a .y .now)) (rankedBy (a .p .now)) (a .limit) (a .x))
 
 pub work-spec : {M : Type 1} → statement M
 work-spec =
@@ -77,12 +81,10 @@ work-spec =
     Inv-loop
     μ-loop
     loop-holds
+    cost-requires
+    period-requires
     mul-part
     element-copy-out-part
-    mul-part-2
-    element-copy-out-part-2
-    mul-part-3
-    element-copy-out-part-3
     part-requires
     add-total
     add-j

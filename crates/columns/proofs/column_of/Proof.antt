@@ -5,7 +5,8 @@ use mathlib.Core.Path.{_≡_, _∙_}
 use native.Mathlib.Omega.{arith}
 use borrow.Author.Needs.{needs}
 use Rattle.paper.specs.Numbers.{mostTasks, rec, perTask}
-use Rattle.laws.proofs.Lists.{per-task-none, per-task-turn, per-task-done, per-task-full}
+use Rattle.laws.proofs.Every.{at-end}
+use Rattle.laws.proofs.Lists.{per-task-none, per-task-turn, per-task-full}
 use Rattle.columns.specs.Columns.{valueIn}
 use Rattle.columns.proofs.column_of.Statement.{statement}
 use Rattle.columns.proofs.column_of.Tie as tie
@@ -46,7 +47,7 @@ loop-again c =
 
 returns : tie.Need-returns Inv-loop μ-loop
 returns c =
-    (per-task-done _ mostTasks _ 0 (c .before .loop .inv .1) (omega arith) ∙ per-task-full _ 0, c .before .before .good .0 .1 .0 .1)
+    (at-end (λ j f. perTask j f 0) _ mostTasks (c .before .loop .inv .1) (omega arith) ∙ per-task-full _ 0, c .before .before .good .0 .1 .0 .1)
 
 pub column-of-spec : {M : Type 1} → statement M
 column-of-spec =

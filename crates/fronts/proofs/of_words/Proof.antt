@@ -1,14 +1,14 @@
 -- `fronts::of_words` answers at most the length.
-use native.Mathlib.Omega.{arith}
+use borrow.Author.Needs.{needs}
 use Rattle.fronts.proofs.Law.{front}
 use Rattle.fronts.proofs.of_words.Statement.{statement}
 use Rattle.fronts.proofs.of_words.Tie as tie
 
-returns : tie.Need-returns
-returns c = (front _ _ (omega arith), omega arith)
+smaller-requires : tie.Need-smaller-requires
+smaller-requires c κs = search needs
 
-returns-2 : tie.Need-returns-2
-returns-2 c = (front _ _ (omega arith), omega arith)
+returns : tie.Need-returns
+returns c = (front _ _ (c .smaller .ensures .1), c .smaller .ensures .0)
 
 pub of-words-spec : {M : Type 1} → statement M
-of-words-spec = tie.close (tie.spec returns returns-2)
+of-words-spec = tie.close (tie.spec smaller-requires returns)

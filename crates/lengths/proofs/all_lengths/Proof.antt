@@ -4,26 +4,26 @@ use mathlib.Core.Path.{_≡_}
 use native.Mathlib.Omega.{arith}
 use lib.IntN.{pos}
 use Rattle.paper.specs.Numbers.{perTask}
-use Rattle.laws.proofs.Lists.{per-task-none, per-task-turn, per-task-done}
+use Rattle.paper.specs.Lengths.{lengthOf}
+use Rattle.laws.proofs.Every.{at-end}
+use Rattle.laws.proofs.Lists.{per-task-none, per-task-turn}
+use Rattle.columns.specs.Columns.{tasksBy, rankedBy}
 use Rattle.tolerance.proofs.Machine.{kept}
-use Rattle.lengths.specs.Stages.{lengthBy}
 use Rattle.lengths.proofs.all_lengths.Statement.{statement}
 use Rattle.lengths.proofs.all_lengths.Tie as tie
 
 abbrev Inv-loop : tie.InvT-loop
-Inv-loop costs priorities ticks n lengths₀ k₀ lengths k =
-    (k ≤ n) × (lengths ≡ perTask k (lengthBy n costs priorities ticks) (pos 0))
+Inv-loop n y p ticks lengths₀ k₀ lengths k =
+    (k ≤ n) × (lengths ≡ perTask k (lengthOf (tasksBy n y) (rankedBy p)) (pos 0))
 
 abbrev μ-loop : tie.MeasureT-loop
-μ-loop costs priorities ticks n lengths₀ k₀ lengths k = n - k
+μ-loop n y p ticks lengths₀ k₀ lengths k = n - k
 
 loop-holds : tie.Need-loop-holds Inv-loop μ-loop
 loop-holds c = (omega arith, per-task-none _ (pos 0))
 
 length-of-requires : tie.Need-length-of-requires Inv-loop μ-loop
-length-of-requires c κs =
-    let s = c .before .before in
-    (s .pre .0, (c .loop-test .taken, s .pre .1 .below (c .before .loop .k) (c .loop-test .taken)))
+length-of-requires c κs = let s = c .before .before in (s .pre .0, (s .pre .1, c .loop-test .taken))
 
 mul-lengths : tie.Need-mul-lengths Inv-loop μ-loop
 mul-lengths c = omega arith
@@ -45,7 +45,7 @@ loop-again c =
     )
 
 returns : tie.Need-returns Inv-loop μ-loop
-returns c = per-task-done (c .before .loop .k) (c .before .before .args .n) _ (pos 0) (c .before .loop .inv .1) (omega arith)
+returns c = at-end (λ k f. perTask k f (pos 0)) _ _ (c .before .loop .inv .1) (omega arith)
 
 pub all-lengths-spec : {M : Type 1} → statement M
 all-lengths-spec =

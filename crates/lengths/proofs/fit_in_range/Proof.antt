@@ -1,11 +1,11 @@
 -- Refusal 16 is the answer; else the regions are held against the lengths.
 use mathlib.Core.Path.{sym, _∙_}
+use borrow.Author.Needs.{needs}
 use Rattle.paper.specs.Numbers.{assigned}
 use Rattle.paper.specs.Analysis.{tasksOf}
 use Rattle.paper.specs.Lengths.{lengthOf}
-use Rattle.lengths.proofs.Outcomes.{answer-outcome, answer-ticks, fit-refused, fit-yes, fit-no}
+use Rattle.lengths.proofs.Outcomes.{answer-outcome, answer-ticks, fit-refused, fit-done}
 use Rattle.lengths.proofs.Tables.{fit-by}
-use borrow.Author.Needs.{needs}
 use Rattle.lengths.proofs.fit_in_range.Statement.{statement}
 use Rattle.lengths.proofs.fit_in_range.Tie as tie
 
@@ -19,7 +19,10 @@ enum-told : tie.Need-enum-told
 enum-told c = search needs
 
 all-fit-requires : tie.Need-all-fit-requires
-all-fit-requires c κs = search needs
+all-fit-requires c κs = c .before .before .before .before .before .before .before .before .pre .few
+
+verdict-requires : tie.Need-verdict-requires
+verdict-requires c κs = search needs
 
 returns : tie.Need-returns
 returns c =
@@ -32,24 +35,13 @@ returns-2 c =
     let w = c .before in
     let told = w .before .before .before .before in
     let l = told .before .before in
-    let s = l .before .before .before in
-    let t = s .args .t in
-    let f = lengthOf (tasksOf (t .records) (t .n)) (assigned (t .records)) in
-    fit-yes (sym (answer-outcome (t .n) f (l .lengths-in-range .ensures)) ∙ told .enum-told .given .1)
-    (w .all-fit .ensures ∙ fit-by (t .records) (t .n) (s .pre .0) _ (s .args .own .now) (s .args .catalogue .now) (answer-ticks (t .n) f (l .lengths-in-range .ensures) (told .enum-told .given .1)))
-    (c .if1 .taken)
-
-returns-3 : tie.Need-returns-3
-returns-3 c =
-    let w = c .before in
-    let told = w .before .before .before .before in
-    let l = told .before .before in
-    let s = l .before .before .before in
-    let t = s .args .t in
-    let f = lengthOf (tasksOf (t .records) (t .n)) (assigned (t .records)) in
-    fit-no (sym (answer-outcome (t .n) f (l .lengths-in-range .ensures)) ∙ told .enum-told .given .1)
-    (w .all-fit .ensures ∙ fit-by (t .records) (t .n) (s .pre .0) _ (s .args .own .now) (s .args .catalogue .now) (answer-ticks (t .n) f (l .lengths-in-range .ensures) (told .enum-told .given .1)))
-    (c .if1 .left)
+    let a = l .before .before .before .args in
+    let rs = a .t .records in
+    let y = tasksOf rs (a .t .n) in
+    let f = lengthOf y (assigned rs) in
+    c .verdict .ensures
+    ∙ fit-done (sym (answer-outcome (y .n) f (l .lengths-in-range .ensures)) ∙ told .enum-told .given .1)
+    (w .all-fit .ensures ∙ fit-by rs y (assigned rs) _ (a .own .now) (a .catalogue .now) (answer-ticks (y .n) f (l .lengths-in-range .ensures) (told .enum-told .given .1)))
 
 pub fit-in-range-spec : {M : Type 1} → statement M
 fit-in-range-spec =
@@ -59,6 +51,6 @@ fit-in-range-spec =
     enum-known-outcome
     enum-told
     all-fit-requires
+    verdict-requires
     returns
-    returns-2
-    returns-3)
+    returns-2)

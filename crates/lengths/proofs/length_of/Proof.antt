@@ -1,44 +1,49 @@
 -- The invariant: q is the smallest of C(k) and of the tolerances above k among the first j.
-use Prim.Native.Nat.{_-_, _≤_}
+use Prim.Native.Nat.{ℕ, _-_, _≤_}
 use mathlib.Core.Path.{_≡_, sym, _∙_}
+use mathlib.Core.Bool.{Bool}
 use native.Mathlib.Omega.{arith}
 use borrow.Author.Needs.{needs}
 use lib.Dec.{ltb}
-use lib.IntN.{pos}
+use lib.IntN.{ℤ, pos}
 use lib.ListN.{getD}
 use mir.Syntax.{w64}
 use mir.Val.{toZ}
 use mir.Facts.{toZ-pos}
-use Rattle.paper.specs.Lengths.{leastOf}
+use Rattle.paper.specs.Lengths.{tolerance, leastOf, lengthOf}
+use Rattle.laws.proofs.Every.{at-end}
+use Rattle.columns.specs.Columns.{numberAt, tasksBy, rankedBy}
 use Rattle.tolerance.proofs.Machine.{read-back, kept}
-use Rattle.lengths.proofs.Turns.{least-none, least-turn, least-done}
+use Rattle.lengths.proofs.Tables.{tick-at}
+use Rattle.lengths.proofs.Turns.{least-none, least-turn}
 use Rattle.lengths.proofs.length_of.Statement.{statement}
 use Rattle.lengths.proofs.length_of.Tie as tie
 
 abbrev Inv-loop : tie.InvT-loop
-Inv-loop costs priorities ticks n k p q₀ j₀ q j =
-    (j ≤ n) × (toZ w64 q ≡ leastOf j (λ j. ltb (getD priorities j 0) (getD priorities k 0)) (λ j. getD ticks j (pos 0)) (pos (getD costs k 0)))
+Inv-loop n y p ticks k rank q₀ j₀ q j =
+    (j ≤ n) × (toZ w64 q ≡ leastOf j (λ j. ltb (getD p j 0) (getD p k 0)) (tolerance (tasksBy n y) (rankedBy p)) (pos (numberAt 0 y k)))
 
 abbrev μ-loop : tie.MeasureT-loop
-μ-loop costs priorities ticks n k p q₀ j₀ q j = n - j
+μ-loop n y p ticks k rank q₀ j₀ q j = n - j
 
-mul-p : tie.Need-mul-p Inv-loop μ-loop
-mul-p c = omega arith
+mul-rank : tie.Need-mul-rank Inv-loop μ-loop
+mul-rank c = omega arith
 
-element-copy-out-p : tie.Need-element-copy-out-p Inv-loop μ-loop
-element-copy-out-p c = omega arith
+element-copy-out-rank : tie.Need-element-copy-out-rank Inv-loop μ-loop
+element-copy-out-rank c = omega arith
 
-mul-q : tie.Need-mul-q Inv-loop μ-loop
-mul-q c = omega arith
-
-element-copy-out-q : tie.Need-element-copy-out-q Inv-loop μ-loop
-element-copy-out-q c = omega arith
+cost-requires : tie.Need-cost-requires Inv-loop μ-loop
+cost-requires c κs = omega arith
 
 cast-q : tie.Need-cast-q Inv-loop μ-loop
-cast-q c = record { sfits = omega arith }
+cast-q c =
+    let s = c .before .before in
+    record { sfits = omega (arith, s .pre .0 .costs (s .args .k) (s .pre .1 .1) .1) }
 
 loop-holds : tie.Need-loop-holds Inv-loop μ-loop
-loop-holds c = (omega arith, toZ-pos w64 (omega arith) ∙ sym (least-none _ _ _))
+loop-holds c =
+    let s = c .before .before in
+    (omega arith, rw (c .cost .ensures) (toZ-pos w64 (omega (arith, s .pre .0 .costs (s .args .k) (s .pre .1 .1) .1)) ∙ sym (least-none _ _ _)))
 
 mul-narrowed : tie.Need-mul-narrowed Inv-loop μ-loop
 mul-narrowed c = omega arith
@@ -63,14 +68,19 @@ loop-less c = omega arith
 
 loop-again : tie.Need-loop-again Inv-loop μ-loop
 loop-again c =
-    let l = c .before .before .before .before .loop in (
+    let l = c .before .before .before .before .loop in
+    let s = c .before .before .before .before .before .before .before in
+    let h = c .before .before .before .loop-test .taken in (
       omega arith,
       kept (c .narrowed .result) (c .narrowed .ok)
-          (c .narrowed .ensures ∙ least-turn _ _ _ (l .j) (l .inv .1) (read-back _ (c .before .narrowed-arg2 .given))),
+          (c .narrowed .ensures ∙ least-turn _ _ _ (l .j) (l .inv .1) (read-back _ (c .before .narrowed-arg2 .given) ∙ tick-at _ _ (s .pre .1 .0) (l .j) h)),
     )
 
 returns : tie.Need-returns Inv-loop μ-loop
-returns c = least-done _ _ _ (c .before .loop .j) (c .before .before .before .before .args .n) (c .before .loop .inv .1) (omega arith)
+unfolding lengthOf
+returns c =
+    let l = c .before .loop in
+    at-end (λ j (b : (ℕ → Bool) × (ℕ → ℤ) × ℤ). leastOf j (b .0) (b .1) (b .2)) (l .j) _ (l .inv .1) (omega arith)
 
 pub length-of-spec : {M : Type 1} → statement M
 length-of-spec =
@@ -78,10 +88,9 @@ length-of-spec =
     (tie.spec
     Inv-loop
     μ-loop
-    mul-p
-    element-copy-out-p
-    mul-q
-    element-copy-out-q
+    mul-rank
+    element-copy-out-rank
+    cost-requires
     cast-q
     loop-holds
     mul-narrowed

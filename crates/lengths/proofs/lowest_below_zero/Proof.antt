@@ -14,10 +14,10 @@ use Rattle.lengths.proofs.lowest_below_zero.Statement.{statement}
 use Rattle.lengths.proofs.lowest_below_zero.Tie as tie
 
 abbrev Inv-loop : tie.InvT-loop
-Inv-loop ticks n k₀ k = (k ≤ n) × ((j : ℕ) → j < k → ltZ (getD ticks j (pos 0)) (pos 0) ≡ false)
+Inv-loop n ticks k₀ k = (k ≤ n) × ((j : ℕ) → j < k → ltZ (getD ticks j (pos 0)) (pos 0) ≡ false)
 
 abbrev μ-loop : tie.MeasureT-loop
-μ-loop ticks n k₀ k = n - k
+μ-loop n ticks k₀ k = n - k
 
 loop-holds : tie.Need-loop-holds Inv-loop μ-loop
 loop-holds c = (omega arith, λ j l. absurd (omega arith))

@@ -3,7 +3,7 @@ use mathlib.Core.Path.{sym, _∙_}
 use native.Mathlib.Omega.{arith}
 use borrow.Author.Needs.{needs}
 use lib.ListN.{length}
-use Rattle.listing.specs.Search.{Accepted}
+use Rattle.listing.specs.Lists.{Accepted}
 use Rattle.listing.proofs.Answers.{first-begun, first-refused-says, first-says}
 use Rattle.listing.proofs.first_row.Statement.{statement}
 use Rattle.listing.proofs.first_row.Tie as tie

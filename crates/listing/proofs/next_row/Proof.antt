@@ -3,7 +3,7 @@ use mathlib.Core.Path.{sym, _∙_}
 use native.Mathlib.Omega.{arith}
 use borrow.Author.Needs.{needs}
 use lib.ListN.{length}
-use Rattle.listing.specs.Search.{Accepted}
+use Rattle.listing.specs.Lists.{Accepted}
 use Rattle.listing.proofs.Answers.{Loaded, some-tasks, few-tasks, last-most, next-begun, next-refused-says, bad-row-says, next-says}
 use Rattle.paper.proofs.Formed.{formed}
 use Rattle.listing.proofs.next_row.Statement.{statement}

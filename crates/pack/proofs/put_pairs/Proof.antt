@@ -1,10 +1,10 @@
 -- `pack::put_pairs` meets its contract. The loop's invariant: 2i words are put.
-use Prim.Native.Nat.{_+_, _*_, _-_, _≤_}
-use mathlib.Core.Path.{_≡_, refl, _∙_}
+use Prim.Native.Nat.{_*_, _-_, _≤_}
+use mathlib.Core.Path.{_≡_, refl, ap, _∙_}
 use native.Mathlib.Omega.{arith}
 use lib.ListN.{length}
 use Rattle.paper.specs.File.{putWords}
-use Rattle.pack.proofs.Steps.{pair-turn, words-done}
+use Rattle.pack.proofs.Steps.{pair-turn}
 use Rattle.pack.proofs.put_pairs.Statement.{statement}
 use Rattle.pack.proofs.put_pairs.Tie as tie
 
@@ -66,14 +66,14 @@ loop-again c =
     let p = c .before .before .put-pair in (
       omega arith,
       p .kept .0 ∙ l .inv .1,
-      words-done _ _ _ (2 * l .i + 2) _ (pair-turn _ _ _ (2 * l .i) _ (omega arith) (l .inv .2) (p .ensures)) (omega arith),
+      pair-turn _ _ _ (2 * l .i) _ (omega arith) (l .inv .2) (p .ensures) ∙ ap (putWords _ _ _) (omega arith),
     )
 
 same-length : tie.Need-same-length Inv-loop μ-loop
 same-length c = c .before .loop .inv .1
 
 returns : tie.Need-returns Inv-loop μ-loop
-returns c = let l = c .before .loop in words-done _ _ _ (2 * l .i) _ (l .inv .2) (omega arith)
+returns c = c .before .loop .inv .2 ∙ ap (putWords _ _ _) (omega arith)
 
 pub put-pairs-spec : {M : Type 1} → statement M
 put-pairs-spec =

@@ -1,10 +1,10 @@
 -- `pack::put_records` meets its contract. The loop's invariant: i records are put.
 use Prim.Native.Nat.{_-_, _≤_}
-use mathlib.Core.Path.{_≡_, refl, _∙_}
+use mathlib.Core.Path.{_≡_, refl, ap, _∙_}
 use native.Mathlib.Omega.{arith}
 use lib.ListN.{length}
 use Rattle.paper.specs.File.{putRecords}
-use Rattle.pack.proofs.Steps.{records-turn, records-done}
+use Rattle.pack.proofs.Steps.{records-turn}
 use Rattle.pack.proofs.put_records.Statement.{statement}
 use Rattle.pack.proofs.put_records.Tie as tie
 
@@ -43,7 +43,7 @@ same-length : tie.Need-same-length Inv-loop μ-loop
 same-length c = c .before .loop .inv .1
 
 returns : tie.Need-returns Inv-loop μ-loop
-returns c = records-done _ _ (c .before .loop .i) _ (c .before .loop .inv .2) (omega arith)
+returns c = c .before .loop .inv .2 ∙ ap (putRecords _ _) (omega arith)
 
 pub put-records-spec : {M : Type 1} → statement M
 put-records-spec =

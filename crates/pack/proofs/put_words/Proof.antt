@@ -1,9 +1,11 @@
 -- `pack::put_words` meets its contract: the pairs, and the last word where their number is odd.
-use Prim.Native.Nat.{_+_, _*_, _/_}
+use Prim.Native.Nat.{_*_, _/_}
+use mathlib.Core.Path.{ap, _∙_}
 use native.Mathlib.Omega.{arith}
 use lib.ListN.{length}
 use denote.Ref.{now}
-use Rattle.pack.proofs.Steps.{word-turn, words-done}
+use Rattle.paper.specs.File.{putWords}
+use Rattle.pack.proofs.Steps.{word-turn}
 use borrow.Author.Needs.{needs}
 use Rattle.pack.proofs.put_words.Statement.{statement}
 use Rattle.pack.proofs.put_words.Tie as tie
@@ -18,7 +20,7 @@ same-length : tie.Need-same-length
 same-length c = search needs
 
 returns : tie.Need-returns
-returns c = words-done _ _ _ _ _ (c .before .before .before .put-pairs .ensures) (omega arith)
+returns c = c .before .before .before .put-pairs .ensures ∙ ap (putWords _ _ _) (omega arith)
 
 mul-at : tie.Need-mul-at
 mul-at c = search needs
@@ -61,7 +63,7 @@ returns-2 c =
     let h = w .before .before .before .before .before .before in
     let a = h .before .before .before .before .args in
     let p = 2 * (length (now (a .ws)) / 2) in
-    words-done _ _ _ (p + 1) _ (word-turn _ _ _ p (h .put-pairs .ensures) (w .put .ensures)) (omega arith)
+    word-turn _ _ _ p (h .put-pairs .ensures) (w .put .ensures) ∙ ap (putWords _ _ _) (omega arith)
 
 pub put-words-spec : {M : Type 1} → statement M
 put-words-spec =

@@ -1,6 +1,8 @@
 -- A refusal of the file is the answer; else the number decides.
-use mathlib.Core.Path.{_≡_, refl, sym, _∙_}
-use mathlib.Core.Bool.{not, cond}
+use mathlib.Core.Path.{_≡_, refl, sym, ap, _∙_}
+use mathlib.Core.Bool.{Bool, not, _&&_, cond}
+use Prim.Native.Nat.{ℕ}
+use lib.Dec.{leb}
 use native.Mathlib.Omega.{arith}
 use denote.Ref.{now}
 use Rattle.paper.specs.Answers.{recordOutcome}
@@ -39,8 +41,8 @@ decided : (c : tie.After-is-record) {x : Outcome} → x ≡ cond (not (c .is-rec
 decided c e =
     let o = c .before .before .before .before in
     let a = o .before .before .before .args in
-    number-asked (now (a .file)) (a .cabinet .0) (a .line .0) (now (a .catalogue)) (a .number) _ _ _
-    (sym (c .before .before .enum-told .given .1) ∙ o .file-outcome .ensures) (c .before .task-count .ensures .0) (c .is-record .ensures) e
+    e ∙ ap (λ (b : Bool). cond (not b) (Refused NoSuchPart) Done) (c .is-record .ensures ∙ ap (λ (n : ℕ). leb 1 (a .number) && leb (a .number) n) (c .before .task-count .ensures .0))
+    ∙ number-asked (now (a .file)) (a .cabinet .0) (a .line .0) (now (a .catalogue)) (a .number) (sym (c .before .before .enum-told .given .1) ∙ o .file-outcome .ensures)
 
 returns : tie.Need-returns
 returns c = decided (c .before) (stops NoSuchPart _ (c .if1 .taken))

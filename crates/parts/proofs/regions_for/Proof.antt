@@ -35,8 +35,8 @@ words-from-requires-2 c κs =
     let d = c .before .before .before .before in
     let start = d .before .before .before .before in
     let a = start .args in
-    rw (c .source-list .ensures .1)
-    (in-list (a .t) (now (a .own)) (now (a .catalogue)) (a .number) (sym (d .enum-told2 .given .1) ∙ start .pre) _ (c .before .before .before .record-of .ensures))
+    rw (c .source-list .ensures .1, c .before .before .before .record-of .ensures)
+    (in-list (a .t) (now (a .own)) (now (a .catalogue)) (a .number) (sym (d .enum-told2 .given .1) ∙ start .pre))
 
 returns : tie.Need-returns
 returns c = regions-refused _ _ _ _ _ _ (sym (c .before .enum-told .given .1) ∙ c .before .before .before .before .before .pre) (c .words-from .ensures)

@@ -19,26 +19,14 @@ byte-at-requires c κs = search needs
 cast-n : tie.Need-cast-n Inv-loop μ-loop
 cast-n c = search needs
 
-add-record-at : tie.Need-add-record-at Inv-loop μ-loop
-add-record-at c = search needs
-
-record-at-requires : tie.Need-record-at-requires Inv-loop μ-loop
-record-at-requires c κs = search needs
+table-record-requires : tie.Need-table-record-requires Inv-loop μ-loop
+table-record-requires c κs = search needs
 
 loop-holds : tie.Need-loop-holds Inv-loop μ-loop
 loop-holds c = search needs
 
-add-record-at-2 : tie.Need-add-record-at-2 Inv-loop μ-loop
-add-record-at-2 c = search needs
-
-mul-record-at : tie.Need-mul-record-at Inv-loop μ-loop
-mul-record-at c = search needs
-
-add-record-at-3 : tie.Need-add-record-at-3 Inv-loop μ-loop
-add-record-at-3 c = search needs
-
-record-at-requires-2 : tie.Need-record-at-requires-2 Inv-loop μ-loop
-record-at-requires-2 c κs = search needs
+table-record-requires-2 : tie.Need-table-record-requires-2 Inv-loop μ-loop
+table-record-requires-2 c κs = search needs
 
 mul-records : tie.Need-mul-records Inv-loop μ-loop
 mul-records c = search needs
@@ -66,13 +54,9 @@ table-at-spec =
     μ-loop
     byte-at-requires
     cast-n
-    add-record-at
-    record-at-requires
+    table-record-requires
     loop-holds
-    add-record-at-2
-    mul-record-at
-    add-record-at-3
-    record-at-requires-2
+    table-record-requires-2
     mul-records
     array-set-from-records
     add-k

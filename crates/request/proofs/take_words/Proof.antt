@@ -23,17 +23,8 @@ of-words-requires c κs = search needs
 loop-holds : tie.Need-loop-holds Inv-loop μ-loop
 loop-holds c = search needs
 
-add-four-at : tie.Need-add-four-at Inv-loop μ-loop
-add-four-at c = search needs
-
-mul-four-at : tie.Need-mul-four-at Inv-loop μ-loop
-mul-four-at c = search needs
-
-add-four-at-2 : tie.Need-add-four-at-2 Inv-loop μ-loop
-add-four-at-2 c = search needs
-
-four-at-requires : tie.Need-four-at-requires Inv-loop μ-loop
-four-at-requires c κs = search needs
+word-at-requires : tie.Need-word-at-requires Inv-loop μ-loop
+word-at-requires c κs = search needs
 
 mul-out : tie.Need-mul-out Inv-loop μ-loop
 mul-out c = search needs
@@ -65,10 +56,7 @@ take-words-spec =
     two-at-requires
     of-words-requires
     loop-holds
-    add-four-at
-    mul-four-at
-    add-four-at-2
-    four-at-requires
+    word-at-requires
     mul-out
     slice-write-out
     add-i

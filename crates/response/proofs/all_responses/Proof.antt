@@ -5,16 +5,19 @@ use native.Mathlib.Omega.{arith}
 use borrow.Author.Needs.{needs}
 use Rattle.paper.specs.Numbers.{perTask}
 use Rattle.paper.specs.Answers.{noTime}
-use Rattle.laws.proofs.Lists.{per-task-none, per-task-turn, per-task-done}
-use Rattle.response.specs.Stands.{answerBy}
+use Rattle.laws.proofs.Every.{at-end}
+use Rattle.laws.proofs.Lists.{per-task-none, per-task-turn}
+use Rattle.columns.specs.Columns.{tasksBy, assignedBy}
+use Rattle.response.specs.Bounds.{answerOf}
+use Rattle.response.proofs.Bounds.{horizon-bounds}
 use Rattle.response.proofs.all_responses.Statement.{statement}
 use Rattle.response.proofs.all_responses.Tie as tie
 
 abbrev Inv-loop : tie.InvT-loop
-Inv-loop n c t p h times₀ i₀ times i = (i ≤ n) × (times ≡ perTask i (answerBy n c t p h) noTime)
+Inv-loop n y p h times₀ i₀ times i = (i ≤ n) × (times ≡ perTask i (answerOf (tasksBy n y) (assignedBy p h)) noTime)
 
 abbrev μ-loop : tie.MeasureT-loop
-μ-loop n c t p h times₀ i₀ times i = n - i
+μ-loop n y p h times₀ i₀ times i = n - i
 
 no-times-requires : tie.Need-no-times-requires Inv-loop μ-loop
 no-times-requires c κs = tt
@@ -23,7 +26,7 @@ loop-holds : tie.Need-loop-holds Inv-loop μ-loop
 loop-holds c = (search needs, c .no-times .ensures ∙ per-task-none _ _)
 
 response-requires : tie.Need-response-requires Inv-loop μ-loop
-response-requires c κs = (c .before .before .before .pre, c .loop-test .taken)
+response-requires c κs = let q = c .before .before .before .pre in (q .0, q .1, c .loop-test .taken)
 
 mul-times : tie.Need-mul-times Inv-loop μ-loop
 mul-times c = omega arith
@@ -40,10 +43,10 @@ loop-less c = search needs
 loop-again : tie.Need-loop-again Inv-loop μ-loop
 loop-again c =
     let l = c .before .before .loop in
-    (search needs, per-task-turn (l .i) _ _ (omega arith) (l .inv .1) (ap (λ r. record { time = r }) (c .response .ensures)))
+    (search needs, per-task-turn (l .i) _ _ (omega arith) (l .inv .1) (ap (λ r. record { time = r }) (c .response .ensures ∙ horizon-bounds _ _ _)))
 
 returns : tie.Need-returns Inv-loop μ-loop
-returns c = per-task-done _ (c .before .before .before .args .n) _ _ (c .before .loop .inv .1) (omega arith)
+returns c = at-end (λ k f. perTask k f noTime) _ (c .before .before .before .args .n) (c .before .loop .inv .1) (omega arith)
 
 pub all-responses-spec : {M : Type 1} → statement M
 all-responses-spec =

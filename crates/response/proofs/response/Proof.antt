@@ -1,6 +1,10 @@
 use mathlib.Core.Path.{sym, _∙_}
-use Rattle.response.proofs.Verdicts.{stand-bound, stand-own, count-bound, response-at, response-beyond}
 use borrow.Author.Needs.{needs}
+use Rattle.columns.specs.Columns.{tasksBy, assignedBy, rankedBy}
+use Rattle.jobs.proofs.Blocks.{stands}
+use Rattle.jobs.proofs.Cases.{level-range}
+use Rattle.jobs.proofs.Spans.{count-bound}
+use Rattle.response.proofs.Bounds.{beyond-is, worst-is}
 use Rattle.response.proofs.response.Statement.{statement}
 use Rattle.response.proofs.response.Tie as tie
 
@@ -11,9 +15,7 @@ job-count-requires : tie.Need-job-count-requires
 job-count-requires c κs =
     let s = c .before in
     let a = s .args in
-    let r = s .pre .0 in
-    let e = c .stand-of .ensures in
-    (r, s .pre .1, stand-bound (a .n) (a .c .now) (a .t .now) (a .p .now) (a .h .now) r (a .i) (s .pre .1) _ e, stand-own (a .n) (a .c .now) (a .t .now) (a .p .now) (a .h .now) r (a .i) (s .pre .1) _ e)
+    (s .pre .0, stands (tasksBy (a .n) (a .y .now)) (assignedBy (a .p .now) (a .h .now)) (a .i) (rankedBy (a .p .now) .h) _ (c .stand-of .ensures) (s .pre .0) (s .pre .1) (s .pre .2))
 
 enum-known-count : tie.Need-enum-known-count
 enum-known-count c = search needs
@@ -23,25 +25,23 @@ enum-told c = search needs
 
 returns : tie.Need-returns
 returns c =
-    let s = c .before .before .before .before in
-    let a = s .args in
-    let e = c .before .before .before .stand-of .ensures in
-    response-beyond (a .n) (a .c .now) (a .t .now) (a .p .now) (a .h .now) (s .pre .0) (a .i) (s .pre .1) _ e (sym (c .before .before .job-count .ensures) ∙ c .enum-told .given .1)
+    let a = c .before .before .before .before .args in
+    beyond-is (tasksBy (a .n) (a .y .now)) (assignedBy (a .p .now) (a .h .now)) (a .i) (rankedBy (a .p .now) .h) _ (c .before .before .before .stand-of .ensures) (a .most) (sym (c .before .before .job-count .ensures) ∙ c .enum-told .given .1)
 
 worst-requires : tie.Need-worst-requires
 worst-requires c κs =
     let s = c .before .before .before .before .before in
     let a = s .args in
-    let r = s .pre .0 in
-    let e = c .before .before .before .before .stand-of .ensures in
-    (r, s .pre .1, stand-bound (a .n) (a .c .now) (a .t .now) (a .p .now) (a .h .now) r (a .i) (s .pre .1) _ e, count-bound (a .n) (a .c .now) (a .t .now) (a .p .now) (a .h .now) r (a .i) (s .pre .1) _ e _ (sym (c .before .before .before .job-count .ensures) ∙ c .before .count .given .1))
+    let o = stands (tasksBy (a .n) (a .y .now)) (assignedBy (a .p .now) (a .h .now)) (a .i) (rankedBy (a .p .now) .h) _ (c .before .before .before .before .stand-of .ensures) (s .pre .0) (s .pre .1) (s .pre .2) in (
+      s .pre .0,
+      o,
+      count-bound _ _ _ _ (s .pre .0 .periods _ (o .among) .0) (level-range (tasksBy (a .n) (a .y .now)) (rankedBy (a .p .now)) (s .pre .0) (c .before .before .before .before .stand-of .result)) (sym (c .before .before .before .job-count .ensures) ∙ c .before .count .given .1),
+    )
 
 returns-2 : tie.Need-returns-2
 returns-2 c =
-    let s = c .before .before .before .before .before .before in
-    let a = s .args in
-    let e = c .before .before .before .before .before .stand-of .ensures in
-    c .worst .ensures ∙ response-at (a .n) (a .c .now) (a .t .now) (a .p .now) (a .h .now) (s .pre .0) (a .i) (s .pre .1) _ e _ (sym (c .before .before .before .before .job-count .ensures) ∙ c .before .before .count .given .1)
+    let a = c .before .before .before .before .before .before .args in
+    c .worst .ensures ∙ worst-is (tasksBy (a .n) (a .y .now)) (assignedBy (a .p .now) (a .h .now)) (a .i) (rankedBy (a .p .now) .h) _ (c .before .before .before .before .before .stand-of .ensures) (a .most) _ (sym (c .before .before .before .before .job-count .ensures) ∙ c .before .before .count .given .1)
 
 pub response-spec : {M : Type 1} → statement M
 response-spec =

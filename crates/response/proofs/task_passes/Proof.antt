@@ -1,68 +1,39 @@
-use mathlib.Core.Path.{sym, ap, _∙_}
-use Rattle.paper.specs.Analysis.{within}
-use Rattle.response.proofs.Verdicts.{ready, stand-bound, stand-own, count-bound, response-at, beyond-fails}
-use lib.ListN.{getD}
+use mathlib.Core.Path.{sym, _∙_}
 use borrow.Author.Needs.{needs}
+use Rattle.columns.specs.Columns.{tasksBy, assignedBy}
+use Rattle.response.proofs.Bounds.{task-passes, task-fails}
 use Rattle.response.proofs.task_passes.Statement.{statement}
 use Rattle.response.proofs.task_passes.Tie as tie
 
-stand-of-requires : tie.Need-stand-of-requires
-stand-of-requires c κs = search needs
+deadline-requires : tie.Need-deadline-requires
+deadline-requires c κs = search needs
 
-job-count-requires : tie.Need-job-count-requires
-job-count-requires c κs =
-    let s = c .before in
-    let a = s .args in
-    let r = ready _ _ _ _ _ _ (s .pre .0) in
-    let e = c .stand-of .ensures in
-    (r, s .pre .1, stand-bound (a .n) (a .c .now) (a .t .now) (a .p .now) (a .h .now) r (a .i) (s .pre .1) _ e, stand-own (a .n) (a .c .now) (a .t .now) (a .p .now) (a .h .now) r (a .i) (s .pre .1) _ e)
-
-enum-known-count : tie.Need-enum-known-count
-enum-known-count c = search needs
+response-requires : tie.Need-response-requires
+response-requires c κs = search needs
 
 enum-told : tie.Need-enum-told
 enum-told c = search needs
 
+enum-told-2 : tie.Need-enum-told-2
+enum-told-2 c = search needs
+
 returns : tie.Need-returns
 returns c =
-    let s = c .before .before .before .before in
-    let a = s .args in
-    let r = ready _ _ _ _ _ _ (s .pre .0) in
-    let e = c .before .before .before .stand-of .ensures in
-    beyond-fails (a .n) (a .c .now) (a .t .now) (a .p .now) (a .h .now) r (a .i) (s .pre .1) _ e _ (sym (c .before .before .job-count .ensures) ∙ c .enum-told .given .1)
-
-mul-deadline : tie.Need-mul-deadline
-mul-deadline c = search needs
-
-element-copy-out-deadline : tie.Need-element-copy-out-deadline
-element-copy-out-deadline c = search needs
-
-in-time-requires : tie.Need-in-time-requires
-in-time-requires c κs =
-    let s = c .before .before .before .before .before .before in
-    let a = s .args in
-    let r = ready _ _ _ _ _ _ (s .pre .0) in
-    let e = c .before .before .before .before .before .stand-of .ensures in
-    (r, s .pre .1, stand-bound (a .n) (a .c .now) (a .t .now) (a .p .now) (a .h .now) r (a .i) (s .pre .1) _ e, count-bound (a .n) (a .c .now) (a .t .now) (a .p .now) (a .h .now) r (a .i) (s .pre .1) _ e _ (sym (c .before .before .before .before .job-count .ensures) ∙ c .before .before .count .given .1), s .pre .0 .deadlines .below _ (s .pre .1))
+    let a = c .before .before .before .before .args in
+    task-passes (tasksBy (a .n) (a .y .now)) (assignedBy (a .p .now) (a .h .now)) (a .i) (c .before .before .before .deadline .ensures) _ (sym (c .before .before .response .ensures) ∙ c .enum-told .given .1)
 
 returns-2 : tie.Need-returns-2
 returns-2 c =
-    let s = c .before .before .before .before .before .before .before in
-    let a = s .args in
-    let r = ready _ _ _ _ _ _ (s .pre .0) in
-    let e = c .before .before .before .before .before .before .stand-of .ensures in
-    c .in-time .ensures ∙ ap (λ w. within w (getD (a .d .now) (a .i) 0)) (response-at (a .n) (a .c .now) (a .t .now) (a .p .now) (a .h .now) r (a .i) (s .pre .1) _ e _ (sym (c .before .before .before .before .before .job-count .ensures) ∙ c .before .before .before .count .given .1))
+    let a = c .before .before .before .before .args in
+    task-fails (tasksBy (a .n) (a .y .now)) (assignedBy (a .p .now) (a .h .now)) (a .i) (c .before .before .before .deadline .ensures) (sym (c .before .before .response .ensures) ∙ c .enum-told2 .given .1)
 
 pub task-passes-spec : {M : Type 1} → statement M
 task-passes-spec =
     tie.close
     (tie.spec
-    stand-of-requires
-    job-count-requires
-    enum-known-count
+    deadline-requires
+    response-requires
     enum-told
+    enum-told-2
     returns
-    mul-deadline
-    element-copy-out-deadline
-    in-time-requires
     returns-2)

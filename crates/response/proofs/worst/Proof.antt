@@ -1,50 +1,46 @@
--- The invariant: the largest so far is the worst of the jobs passed, and the next starts no earlier than `from`.
-use Prim.Native.Nat.{_-_, _≤_, max}
-use mathlib.Core.Path.{_≡_, sym, ap, _∙_}
+-- The invariant: the largest so far is the worst of the jobs passed and within the bound, and the next job starts no earlier than `from`.
+use Prim.Native.Nat.{_-_, _≤_, zero-le}
+use mathlib.Core.Path.{_≡_, sym, _∙_}
 use native.Mathlib.Omega.{arith}
 use native.Mathlib.Nat.{mul-le-mul}
 use borrow.Author.Needs.{needs}
 use Rattle.paper.specs.Numbers.{mostTicks, horizon}
 use Rattle.paper.specs.Analysis.{startSum, worst}
 use Rattle.paper.specs.declared.Time.the-variants.{At}
-use Rattle.climb.specs.Work.{timesBy}
-use Rattle.response.specs.Stands.{standBy, Climbs}
-use Rattle.response.proofs.Cases.{start-range, climbs-none, climbs-next}
-use Rattle.response.proofs.Jobs.{ended, beyond, worst-none, worst-more, worst-beyond}
+use Rattle.columns.specs.Columns.{tasksBy, rankedBy}
+use Rattle.jobs.specs.Stands.{standBy, Climbs}
+use Rattle.jobs.proofs.Cases.{start-range, climbs-none, climbs-next}
+use Rattle.jobs.proofs.Spans.{ended, beyond}
+use Rattle.response.proofs.Bounds.{one-late, one-beyond, all-within, worst-none, worst-more}
 use Rattle.response.proofs.worst.Statement.{statement}
 use Rattle.response.proofs.worst.Tie as tie
 
 abbrev Inv-loop : tie.InvT-loop
-Inv-loop n c t p i s jobs cost period from₀ most₀ k₀ from most k =
-    (k ≤ jobs)
-    × Climbs (startSum (timesBy n c t) (standBy p s) i k) from
-    × (At most ≡ worst (timesBy n c t) (standBy p s) i k)
+Inv-loop n y p s count most cost period from₀ largest₀ k₀ from largest k =
+    (k ≤ count)
+    × Climbs (startSum (tasksBy n y) (standBy (rankedBy p) s) (s .i) k) from
+    × (At largest ≡ worst (tasksBy n y) (standBy (rankedBy p) s) (s .i) k)
+    × (largest ≤ most)
 
 abbrev μ-loop : tie.MeasureT-loop
-μ-loop n c t p i s jobs cost period from₀ most₀ k₀ from most k = jobs - k
+μ-loop n y p s count most cost period from₀ largest₀ k₀ from largest k = count - k
 
-mul-cost : tie.Need-mul-cost Inv-loop μ-loop
-mul-cost c = search needs
+cost-requires : tie.Need-cost-requires Inv-loop μ-loop
+cost-requires c κs = search needs
 
-element-copy-out-cost : tie.Need-element-copy-out-cost Inv-loop μ-loop
-element-copy-out-cost c = search needs
-
-mul-period : tie.Need-mul-period Inv-loop μ-loop
-mul-period c = search needs
-
-element-copy-out-period : tie.Need-element-copy-out-period Inv-loop μ-loop
-element-copy-out-period c = search needs
+period-requires : tie.Need-period-requires Inv-loop μ-loop
+period-requires c κs = search needs
 
 loop-holds : tie.Need-loop-holds Inv-loop μ-loop
 loop-holds c =
     let s = c .before .before in
     let a = s .args in
-    (search needs, climbs-none (a .n) (a .c .now) (a .t .now) (a .p .now) (s .pre .0) (a .s) (a .i), worst-none _ _ _)
+    (search needs, climbs-none (tasksBy (a .n) (a .y .now)) (rankedBy (a .p .now)) (s .pre .0) (a .s) (a .s .i), worst-none _ _ _, zero-le)
 
 job-requires : tie.Need-job-requires Inv-loop μ-loop
 job-requires c κs =
     let q = c .before .before .before .before .pre in
-    ((q .0, q .1, q .2, omega (arith, q .3)), c .before .loop .inv .1)
+    ((q .0, q .1, omega (arith, q .2)), c .before .loop .inv .1)
 
 enum-known-j : tie.Need-enum-known-j Inv-loop μ-loop
 enum-known-j c = search needs
@@ -55,36 +51,45 @@ enum-told c = search needs
 returns : tie.Need-returns Inv-loop μ-loop
 returns c =
     let a = c .before .before .before .before .before .before .before .args in
-    worst-beyond _ _ (a .i) (a .jobs) _ (c .before .before .before .loop-test .taken)
+    one-beyond _ _ (a .s .i) (a .most) (a .count) _ (c .before .before .before .loop-test .taken)
     (beyond _ _ _ _ (sym (c .before .before .job .ensures) ∙ c .enum-told .given .1))
 
 mul-less : tie.Need-mul-less Inv-loop μ-loop
 mul-less c =
-    let q = c .before .before .before .before .before .before .before .before .pre in
+    let s = c .before .before .before .before .before .before .before .before in
+    let q = s .pre in
     record {
       fits =
-          omega (
+          rw (c .before .before .before .before .before .before .period .ensures)
+          (omega (
             arith,
-            mul-le-mul {n₁ = c .before .before .before .before .before .loop .k} {n₂ = horizon} {m₂ = mostTicks} (omega (arith, c .before .before .before .before .loop-test .taken, q .3)) (q .0 .periods .below _ (q .1)),
-          );
+            mul-le-mul {n₁ = c .before .before .before .before .before .loop .k} {n₂ = horizon} {m₂ = mostTicks} (omega (arith, c .before .before .before .before .loop-test .taken, q .2)) (q .0 .periods (s .args .s .i) (q .1 .among) .1),
+          ));
     }
 
 less-requires : tie.Need-less-requires Inv-loop μ-loop
 less-requires c κs = tt
+
+returns-2 : tie.Need-returns-2 Inv-loop μ-loop
+returns-2 c =
+    let a = c .before .before .before .before .before .before .before .before .before .before .args in
+    let e = ended _ _ _ _ _ _ (sym (c .before .before .before .before .before .job .ensures) ∙ c .before .before .before .j .given .1) in
+    one-late _ _ (a .s .i) (a .most) (a .count) _ _ (c .before .before .before .before .before .before .loop-test .taken) (e .finish)
+    (c .before .before .before .before .before .before .before .before .period .ensures) (c .before .less .ensures) (c .if1 .taken)
 
 larger-requires : tie.Need-larger-requires Inv-loop μ-loop
 larger-requires c κs = tt
 
 add-from : tie.Need-add-from Inv-loop μ-loop
 add-from c =
-    let s = c .before .before .before .before .before .before .before .before .before .before in
+    let s = c .before .before .before .before .before .before .before .before .before .before .before in
     let a = s .args in
-    let q = s .pre in
-    let e = ended _ _ _ _ _ _ (sym (c .before .before .before .before .before .job .ensures) ∙ c .before .before .before .j .given .1) in
+    let e = ended _ _ _ _ _ _ (sym (c .before .before .before .before .before .before .job .ensures) ∙ c .before .before .before .before .j .given .1) in
     omega (
       arith,
-      start-range (a .n) (a .c .now) (a .t .now) (a .p .now) (q .0) (a .s) (a .i) _ _ (e .start),
-      q .0 .costs .below _ (q .1),
+      c .before .before .before .before .before .before .before .before .before .before .cost .ensures,
+      start-range (tasksBy (a .n) (a .y .now)) (rankedBy (a .p .now)) (s .pre .0) (a .s) (a .s .i) _ _ (e .start),
+      s .pre .0 .costs (a .s .i) (s .pre .1 .among) .1,
     )
 
 add-k : tie.Need-add-k Inv-loop μ-loop
@@ -95,20 +100,21 @@ loop-less c = search needs
 
 loop-again : tie.Need-loop-again Inv-loop μ-loop
 loop-again c =
-    let s = c .before .before .before .before .before .before .before .before .before .before in
+    let s = c .before .before .before .before .before .before .before .before .before .before .before in
     let a = s .args in
-    let q = s .pre in
-    let l = c .before .before .before .before .before .before .before .loop in
-    let e = ended _ _ _ _ _ _ (sym (c .before .before .before .before .before .job .ensures) ∙ c .before .before .before .j .given .1) in (
+    let l = c .before .before .before .before .before .before .before .before .loop in
+    let e = ended _ _ _ _ _ _ (sym (c .before .before .before .before .before .before .job .ensures) ∙ c .before .before .before .before .j .given .1) in (
       search needs,
-      climbs-next (a .n) (a .c .now) (a .t .now) (a .p .now) (q .0) (a .s) (a .i) _ _ (e .start),
-      ap At (c .larger .ensures ∙ ap (max (l .most)) (c .before .less .ensures)) ∙ worst-more _ _ _ _ _ _ (l .inv .2) (e .finish),
+      rw (c .before .before .before .before .before .before .before .before .before .before .cost .ensures) (climbs-next (tasksBy (a .n) (a .y .now)) (rankedBy (a .p .now)) (s .pre .0) (a .s) (a .s .i) _ _ (e .start)),
+      worst-more _ _ _ _ _ _ (l .inv .2) (e .finish) (c .before .before .before .before .before .before .before .before .before .period .ensures) (c .before .before .less .ensures) (c .larger .ensures),
+      omega (arith, c .larger .ensures, l .inv .3, c .before .if1 .left),
     )
 
-returns-2 : tie.Need-returns-2 Inv-loop μ-loop
-returns-2 c =
-    let e : c .before .loop .k ≡ c .before .before .before .before .args .jobs = omega arith in
-    rw (← e) (c .before .loop .inv .2)
+returns-3 : tie.Need-returns-3 Inv-loop μ-loop
+returns-3 c =
+    let a = c .before .before .before .before .args in
+    let v = c .before .loop .inv in
+    all-within _ _ (a .s .i) (a .most) (a .count) _ _ (v .2) (v .3) (omega arith)
 
 pub worst-spec : {M : Type 1} → statement M
 worst-spec =
@@ -116,10 +122,8 @@ worst-spec =
     (tie.spec
     Inv-loop
     μ-loop
-    mul-cost
-    element-copy-out-cost
-    mul-period
-    element-copy-out-period
+    cost-requires
+    period-requires
     loop-holds
     job-requires
     enum-known-j
@@ -127,9 +131,10 @@ worst-spec =
     returns
     mul-less
     less-requires
+    returns-2
     larger-requires
     add-from
     add-k
     loop-less
     loop-again
-    returns-2)
+    returns-3)

@@ -6,7 +6,7 @@ use native.Mathlib.Omega.{arith}
 use lib.Dec.{eqb}
 use lib.ListN.{getD}
 use Rattle.paper.specs.Vocabulary.{every}
-use Rattle.laws.proofs.Every.{every-turn, every-done}
+use Rattle.laws.proofs.Every.{every-turn, at-end}
 use Rattle.rows.specs.Places.{freshAt}
 use Rattle.rows.proofs.fresh.Statement.{statement}
 use Rattle.rows.proofs.fresh.Tie as tie
@@ -38,7 +38,7 @@ loop-again c = (omega arith, every-turn _ _ (c .before .before .loop .inv .1) re
 
 returns : tie.Need-returns Inv-loop μ-loop
 unfolding freshAt
-returns c = every-done _ _ _ (c .before .loop .inv .1) (omega arith)
+returns c = at-end every _ _ (c .before .loop .inv .1) (omega arith)
 
 pub fresh-spec : {M : Type 1} → statement M
 fresh-spec =

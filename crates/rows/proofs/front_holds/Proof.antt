@@ -6,14 +6,8 @@ use Rattle.rows.proofs.Columns.{row-tests}
 use Rattle.rows.proofs.front_holds.Statement.{statement}
 use Rattle.rows.proofs.front_holds.Tie as tie
 
-order-of-requires : tie.Need-order-of-requires
-order-of-requires c κs = search needs
-
-priorities-of-requires : tie.Need-priorities-of-requires
-priorities-of-requires c κs = search needs
-
-thresholds-of-requires : tie.Need-thresholds-of-requires
-thresholds-of-requires c κs = search needs
+numbers-from-requires : tie.Need-numbers-from-requires
+numbers-from-requires c κs = search needs
 
 each-once-requires : tie.Need-each-once-requires
 each-once-requires c κs = search needs
@@ -23,18 +17,11 @@ thresholds-hold-requires c κs = search needs
 
 returns : tie.Need-returns
 returns c =
-    let b = c .before .before .before .before .before in
-    let start = b .before .before .before in
-    ap₂ _&&_ (c .before .before .before .each-once .ensures) (c .thresholds-hold .ensures)
-    ∙ row-tests _ _ (start .pre .0) (start .pre .1) _ _ (b .before .priorities-of .ensures) (b .thresholds-of .ensures) _ (b .before .before .order-of .ensures)
+    let made = c .before .before .before in
+    let start = made .before in
+    ap₂ _&&_ (c .before .each-once .ensures) (c .thresholds-hold .ensures)
+    ∙ row-tests _ _ (start .pre .0) (start .pre .1 .0) (start .pre .1 .1) _ (made .numbers-from .ensures)
 
 pub front-holds-spec : {M : Type 1} → statement M
 front-holds-spec =
-    tie.close
-    (tie.spec
-    order-of-requires
-    priorities-of-requires
-    thresholds-of-requires
-    each-once-requires
-    thresholds-hold-requires
-    returns)
+    tie.close (tie.spec numbers-from-requires each-once-requires thresholds-hold-requires returns)

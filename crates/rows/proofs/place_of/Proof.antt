@@ -10,10 +10,10 @@ use Rattle.rows.proofs.place_of.Statement.{statement}
 use Rattle.rows.proofs.place_of.Tie as tie
 
 abbrev Inv-loop : tie.InvT-loop
-Inv-loop d n v i₀ i = (i ≤ n) × (i + placeOf (drop i (take n d)) v ≡ placeOf (take n d) v)
+Inv-loop n d v i₀ i = (i ≤ n) × (i + placeOf (drop i (take n d)) v ≡ placeOf (take n d) v)
 
 abbrev μ-loop : tie.MeasureT-loop
-μ-loop d n v i₀ i = n - i
+μ-loop n d v i₀ i = n - i
 
 loop-holds : tie.Need-loop-holds Inv-loop μ-loop
 loop-holds c = omega arith

@@ -6,15 +6,16 @@ use native.Mathlib.Omega.{arith}
 use lib.ListN.{take}
 use Rattle.paper.specs.Numbers.{perTask}
 use Rattle.paper.specs.Rows.{placeOf}
-use Rattle.laws.proofs.Lists.{per-task-none, per-task-turn, per-task-done}
+use Rattle.laws.proofs.Every.{at-end}
+use Rattle.laws.proofs.Lists.{per-task-none, per-task-turn}
 use Rattle.rows.proofs.priorities_of.Statement.{statement}
 use Rattle.rows.proofs.priorities_of.Tie as tie
 
 abbrev Inv-loop : tie.InvT-loop
-Inv-loop d n xs₀ k₀ xs k = (k ≤ n) × (xs ≡ perTask k (λ j. placeOf (take n d) (suc j)) 0)
+Inv-loop n d xs₀ k₀ xs k = (k ≤ n) × (xs ≡ perTask k (λ j. placeOf (take n d) (suc j)) 0)
 
 abbrev μ-loop : tie.MeasureT-loop
-μ-loop d n xs₀ k₀ xs k = n - k
+μ-loop n d xs₀ k₀ xs k = n - k
 
 loop-holds : tie.Need-loop-holds Inv-loop μ-loop
 loop-holds c = (omega arith, per-task-none _ 0)
@@ -44,7 +45,7 @@ loop-again c = (
 )
 
 returns : tie.Need-returns Inv-loop μ-loop
-returns c = per-task-done _ _ _ 0 (c .before .loop .inv .1) (omega arith)
+returns c = at-end (λ k f. perTask k f 0) _ _ (c .before .loop .inv .1) (omega arith)
 
 pub priorities-of-spec : {M : Type 1} → statement M
 priorities-of-spec =

@@ -18,14 +18,23 @@ returns c = rw (ne-eqb _ _ (c .if1 .taken))
 load-requires : tie.Need-load-requires
 load-requires c κs = search needs
 
+priorities-of-requires : tie.Need-priorities-of-requires
+priorities-of-requires c κs = search needs
+
+numbers-from-requires : tie.Need-numbers-from-requires
+numbers-from-requires c κs = search needs
+
 front-holds-requires : tie.Need-front-holds-requires
-front-holds-requires c κs = search needs
+front-holds-requires c κs =
+    let made = c .before .before .before in
+    let loaded = made .before .before .before .before in
+    (loaded .before .before .before .pre, (loaded .load .ensures .0, record { priorities = made .before .before .priorities-of .ensures; thresholds = made .numbers-from .ensures }))
 
 returns-2 : tie.Need-returns-2
 returns-2 c =
-    let loaded = c .before .before .load in
+    let loaded = c .before .before .before .before .before .before .before .before in
     c .front-holds .ensures
-    ∙ ap (rowHolds _) (ap (λ (k : ℕ). take k (loaded .result)) (sym (c .before .before .before .if1 .left)) ∙ loaded .ensures .1)
+    ∙ ap (rowHolds _) (ap (λ (k : ℕ). take k (loaded .load .result)) (sym (loaded .before .if1 .left)) ∙ loaded .load .ensures .1)
 
 pub row-holds-spec : {M : Type 1} → statement M
 row-holds-spec =
@@ -34,5 +43,7 @@ row-holds-spec =
     mul-if1
     returns
     load-requires
+    priorities-of-requires
+    numbers-from-requires
     front-holds-requires
     returns-2)

@@ -4,8 +4,8 @@ use mathlib.Core.Path.{_≡_, refl}
 use mathlib.Core.List.{_++_}
 use native.Mathlib.Omega.{arith}
 use lib.ListN.{take, drop, length, length-set}
+use Rattle.laws.proofs.Every.{at-end}
 use Rattle.laws.proofs.Fronts.{front-more}
-use Rattle.rows.proofs.Copies.{copy-done}
 use Rattle.rows.proofs.store.Statement.{statement}
 use Rattle.rows.proofs.store.Tie as tie
 
@@ -43,7 +43,7 @@ same-length : tie.Need-same-length Inv-loop μ-loop
 same-length c = c .before .loop .inv .1 .0
 
 returns : tie.Need-returns Inv-loop μ-loop
-returns c = copy-done _ _ (c .before .loop .i) (c .before .before .args .k) (c .before .loop .inv .1 .1) (omega arith)
+returns c = at-end (λ i s. take i s ++ drop i (c .before .before .args .out .now)) (c .before .loop .i) (c .before .before .args .k) (c .before .loop .inv .1 .1) (omega arith)
 
 pub store-spec : {M : Type 1} → statement M
 store-spec =

@@ -8,22 +8,19 @@ use Rattle.say.proofs.bytes.Statement.{statement}
 use Rattle.say.proofs.bytes.Tie as tie
 
 abbrev Inv-loop : tie.InvT-loop
-Inv-loop buf₀ at bs end₀ i₀ buf end i = (length buf ≡ length buf₀) × (end ≤ length buf₀) × (i ≤ length bs)
+Inv-loop buf₀ at form bs end₀ i₀ buf end i = (length buf ≡ length buf₀) × (end ≤ length buf₀) × (i ≤ length bs)
 
 abbrev μ-loop : tie.MeasureT-loop
-μ-loop buf₀ at bs end₀ i₀ buf end i = length bs - i
+μ-loop buf₀ at form bs end₀ i₀ buf end i = length bs - i
 
 loop-holds : tie.Need-loop-holds Inv-loop μ-loop
 loop-holds c = search needs
 
-shared-slice-read-number : tie.Need-shared-slice-read-number Inv-loop μ-loop
-shared-slice-read-number c = search needs
+shared-slice-read-byte : tie.Need-shared-slice-read-byte Inv-loop μ-loop
+shared-slice-read-byte c = search needs
 
-cast-number : tie.Need-cast-number Inv-loop μ-loop
-cast-number c = omega (arith, c .shared-slice-known2 .given (c .before .before .before .loop .i))
-
-number-requires : tie.Need-number-requires Inv-loop μ-loop
-number-requires c κs = search needs
+byte-requires : tie.Need-byte-requires Inv-loop μ-loop
+byte-requires c κs = search needs
 
 add-i : tie.Need-add-i Inv-loop μ-loop
 add-i c = search needs
@@ -32,7 +29,7 @@ loop-less : tie.Need-loop-less Inv-loop μ-loop
 loop-less c = search needs
 
 loop-again : tie.Need-loop-again Inv-loop μ-loop
-loop-again c = omega (arith, c .before .before .number .kept .0)
+loop-again c = omega (arith, c .before .before .byte .kept .0)
 
 same-length : tie.Need-same-length Inv-loop μ-loop
 same-length c = search needs
@@ -47,9 +44,8 @@ bytes-spec =
     Inv-loop
     μ-loop
     loop-holds
-    shared-slice-read-number
-    cast-number
-    number-requires
+    shared-slice-read-byte
+    byte-requires
     add-i
     loop-less
     loop-again

@@ -5,7 +5,8 @@ use mathlib.Core.Bool.{false}
 use native.Mathlib.Omega.{arith}
 use Rattle.paper.specs.Numbers.{mostTasks, perTask}
 use Rattle.paper.specs.Lengths.{regionsFit}
-use Rattle.laws.proofs.Lists.{per-task-none, per-task-turn, per-task-done, per-task-full}
+use Rattle.laws.proofs.Every.{at-end}
+use Rattle.laws.proofs.Lists.{per-task-none, per-task-turn, per-task-full}
 use Rattle.tolerance.proofs.Machine.{read-back}
 use Rattle.show_facts.specs.Sheet.{fitsAt}
 use borrow.Author.Needs.{needs}
@@ -55,7 +56,7 @@ loop-again c =
     )
 
 returns : tie.Need-returns Inv-loop μ-loop
-returns c = per-task-done _ mostTasks _ false (c .before .loop .inv .1) (omega arith) ∙ per-task-full _ false
+returns c = at-end (λ k f. perTask k f false) _ mostTasks (c .before .loop .inv .1) (omega arith) ∙ per-task-full _ false
 
 pub all-fits-spec : {M : Type 1} → statement M
 all-fits-spec =

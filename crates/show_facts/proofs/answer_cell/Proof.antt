@@ -1,8 +1,7 @@
 -- One call after the other.
-use Rattle.show_facts.proofs.Says.{shown-as}
 use Rattle.tolerance.proofs.Machine.{kept}
 use mathlib.Core.Path.{ap, _∙_}
-use Rattle.show_facts.specs.Sheet.{ticksCell}
+use Rattle.show_facts.specs.Sheet.{ticksCell, shown}
 use borrow.Author.Needs.{needs}
 use Rattle.show_facts.proofs.answer_cell.Statement.{statement}
 use Rattle.show_facts.proofs.answer_cell.Tie as tie
@@ -17,7 +16,7 @@ shown-cell-requires : tie.Need-shown-cell-requires
 shown-cell-requires c κs = search needs
 
 returns : tie.Need-returns
-returns c = let t = c .before .before .ticks-at in shown-as (c .before .before .before .args .answer .outcome) (c .shown-cell .ensures) (c .before .ticks-cell .ensures ∙ ap ticksCell (kept (t .result) (t .ok) (t .ensures)))
+returns c = let t = c .before .before .ticks-at in c .shown-cell .ensures ∙ ap (shown (c .before .before .before .args .answer .outcome)) (c .before .ticks-cell .ensures ∙ ap ticksCell (kept (t .result) (t .ok) (t .ensures)))
 
 pub answer-cell-spec : {M : Type 1} → statement M
 answer-cell-spec =

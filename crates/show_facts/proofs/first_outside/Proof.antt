@@ -3,18 +3,18 @@ use Prim.Native.Nat.{_-_, _≤_}
 use native.Mathlib.Omega.{arith}
 use borrow.Author.Needs.{needs}
 use Rattle.show_facts.specs.Sheet.{insideAt}
-use Rattle.show_facts.proofs.Firsts.{Passed, first-found, one-more, none-found}
+use Rattle.show_facts.proofs.Firsts.{Passed, none-yet, first-found, one-more, none-found}
 use Rattle.show_facts.proofs.first_outside.Statement.{statement}
 use Rattle.show_facts.proofs.first_outside.Tie as tie
 
 abbrev Inv-loop : tie.InvT-loop
-Inv-loop n size rs k₀ k = (k ≤ n) × Passed (insideAt rs size) n k
+Inv-loop n size rs k₀ k = (k ≤ n) × Passed (insideAt rs size) k
 
 abbrev μ-loop : tie.MeasureT-loop
 μ-loop n size rs k₀ k = n - k
 
 loop-holds : tie.Need-loop-holds Inv-loop μ-loop
-loop-holds c = (omega arith, λ j l. absurd (omega arith))
+loop-holds c = (omega arith, none-yet)
 
 mul-inside : tie.Need-mul-inside Inv-loop μ-loop
 mul-inside c = omega arith
@@ -29,11 +29,7 @@ add-result : tie.Need-add-result Inv-loop μ-loop
 add-result c = omega arith
 
 returns : tie.Need-returns Inv-loop μ-loop
-returns c =
-    let w = c .before .before .before in
-    let a = w .before .before .args in
-    let l = w .before .loop in
-    first-found (insideAt (a .t1) (a .size)) (a .n) (l .k) (w .loop-test .taken) (c .before .inside .ensures) (c .if1 .taken) (l .inv .1)
+returns c = first-found (c .before .before .before .before .loop .inv .1) (omega arith) (c .before .inside .ensures) (c .if1 .taken)
 
 add-k : tie.Need-add-k Inv-loop μ-loop
 add-k c = omega arith
@@ -42,16 +38,10 @@ loop-less : tie.Need-loop-less Inv-loop μ-loop
 loop-less c = omega arith
 
 loop-again : tie.Need-loop-again Inv-loop μ-loop
-loop-again c =
-    let w = c .before .before .before in
-    let a = w .before .before .args in
-    let l = w .before .loop in
-    (omega arith, one-more (insideAt (a .t1) (a .size)) (a .n) (l .k) (c .before .inside .ensures) (c .if1 .left) (l .inv .1))
+loop-again c = (omega arith, one-more (c .before .before .before .before .loop .inv .1) (c .before .inside .ensures) (c .if1 .left))
 
 returns-2 : tie.Need-returns-2 Inv-loop μ-loop
-returns-2 c =
-    let a = c .before .before .args in
-    none-found (insideAt (a .t1) (a .size)) (a .n) (c .before .loop .k) (omega arith) (c .before .loop .inv .1)
+returns-2 c = none-found (c .before .loop .inv .1) (omega arith)
 
 pub first-outside-spec : {M : Type 1} → statement M
 first-outside-spec =

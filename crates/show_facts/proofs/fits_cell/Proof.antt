@@ -1,7 +1,6 @@
 -- One call after the other.
-use Rattle.show_facts.proofs.Says.{shown-as}
 use mathlib.Core.Path.{ap, _∙_}
-use Rattle.show_facts.specs.Sheet.{fitCell}
+use Rattle.show_facts.specs.Sheet.{fitCell, shown}
 use borrow.Author.Needs.{needs}
 use Rattle.show_facts.proofs.fits_cell.Statement.{statement}
 use Rattle.show_facts.proofs.fits_cell.Tie as tie
@@ -16,7 +15,7 @@ shown-cell-requires : tie.Need-shown-cell-requires
 shown-cell-requires c κs = search needs
 
 returns : tie.Need-returns
-returns c = shown-as (c .before .before .before .args .lengths .outcome) (c .shown-cell .ensures) (c .before .fit-cell .ensures ∙ ap fitCell (c .before .before .fit-at .ensures))
+returns c = c .shown-cell .ensures ∙ ap (shown (c .before .before .before .args .lengths .outcome)) (c .before .fit-cell .ensures ∙ ap fitCell (c .before .before .fit-at .ensures))
 
 pub fits-cell-spec : {M : Type 1} → statement M
 fits-cell-spec = tie.close (tie.spec fit-at-requires fit-cell-requires shown-cell-requires returns)

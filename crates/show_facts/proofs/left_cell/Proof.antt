@@ -1,7 +1,6 @@
 -- One call after the other.
-use Rattle.show_facts.proofs.Says.{shown-as}
 use mathlib.Core.Path.{ap, _∙_}
-use Rattle.show_facts.specs.Sheet.{slackCell}
+use Rattle.show_facts.specs.Sheet.{slackCell, shown}
 use borrow.Author.Needs.{needs}
 use Rattle.show_facts.proofs.left_cell.Statement.{statement}
 use Rattle.show_facts.proofs.left_cell.Tie as tie
@@ -16,7 +15,7 @@ shown-cell-requires : tie.Need-shown-cell-requires
 shown-cell-requires c κs = search needs
 
 returns : tie.Need-returns
-returns c = let a = c .before .before .before .args in shown-as (a .answer .outcome) (c .shown-cell .ensures) (c .before .slack-cell .ensures ∙ ap (λ t. slackCell t (a .deadline)) (c .before .before .time-at .ensures))
+returns c = let a = c .before .before .before .args in c .shown-cell .ensures ∙ ap (shown (a .answer .outcome)) (c .before .slack-cell .ensures ∙ ap (λ t. slackCell t (a .deadline)) (c .before .before .time-at .ensures))
 
 pub left-cell-spec : {M : Type 1} → statement M
 left-cell-spec =

@@ -1,7 +1,6 @@
 -- One call after the other.
-use Rattle.show_facts.proofs.Says.{shown-as}
 use mathlib.Core.Path.{ap, _∙_}
-use Rattle.show_facts.specs.Sheet.{timeCell}
+use Rattle.show_facts.specs.Sheet.{timeCell, shown}
 use borrow.Author.Needs.{needs}
 use Rattle.show_facts.proofs.response_cell.Statement.{statement}
 use Rattle.show_facts.proofs.response_cell.Tie as tie
@@ -16,7 +15,7 @@ shown-cell-requires : tie.Need-shown-cell-requires
 shown-cell-requires c κs = search needs
 
 returns : tie.Need-returns
-returns c = shown-as (c .before .before .before .args .answer .outcome) (c .shown-cell .ensures) (c .before .time-cell .ensures ∙ ap timeCell (c .before .before .time-at .ensures))
+returns c = c .shown-cell .ensures ∙ ap (shown (c .before .before .before .args .answer .outcome)) (c .before .time-cell .ensures ∙ ap timeCell (c .before .before .time-at .ensures))
 
 pub response-cell-spec : {M : Type 1} → statement M
 response-cell-spec =

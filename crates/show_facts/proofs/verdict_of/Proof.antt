@@ -13,14 +13,14 @@ enum-told-2 c = search needs
 jobs-of-requires : tie.Need-jobs-of-requires
 jobs-of-requires c κs = search needs
 
-first-late-requires : tie.Need-first-late-requires
-first-late-requires c κs = search needs
+first-failing-requires : tie.Need-first-failing-requires
+first-failing-requires c κs = search needs
 
 deadlines-of-requires : tie.Need-deadlines-of-requires
 deadlines-of-requires c κs = search needs
 
-first-unfit-requires : tie.Need-first-unfit-requires
-first-unfit-requires c κs = search needs
+first-failing-requires-2 : tie.Need-first-failing-requires-2
+first-failing-requires-2 c κs = search needs
 
 fit-of-requires : tie.Need-fit-of-requires
 fit-of-requires c κs = search needs
@@ -31,9 +31,9 @@ returns c = search needs
 returns-2 : tie.Need-returns-2
 returns-2 c =
     let l = c .before .before .before in
-    let e = l .before .before .before in
-    verdict-is (e .before .before .before .args .f) (e .enum-told2 .given .1) (l .before .before .jobs-of .ensures .1) (l .first-late .ensures) (c .before .before .deadlines-of .ensures)
-    (c .before .first-unfit .ensures) (c .fit-of .ensures)
+    let e = l .before .before in
+    verdict-is (e .before .before .before .args .f) (e .enum-told2 .given .1) (l .before .jobs-of .ensures .1) (l .first-failing .ensures) (c .before .before .deadlines-of .ensures)
+    (c .before .first-failing2 .ensures) (c .fit-of .ensures)
 
 pub verdict-of-spec : {M : Type 1} → statement M
 verdict-of-spec =
@@ -42,9 +42,9 @@ verdict-of-spec =
     enum-told
     enum-told-2
     jobs-of-requires
-    first-late-requires
+    first-failing-requires
     deadlines-of-requires
-    first-unfit-requires
+    first-failing-requires-2
     fit-of-requires
     returns
     returns-2)

@@ -1,15 +1,14 @@
 -- `show_sheet::column_width` ends: the measure is the number of jobs that are left.
 use Prim.Native.Nat.{_≤_, _-_}
 use borrow.Author.Needs.{needs}
-use Rattle.paper.specs.Numbers.{mostTasks}
 use Rattle.show_sheet.proofs.column_width.Statement.{statement}
 use Rattle.show_sheet.proofs.column_width.Tie as tie
 
 abbrev Inv-loop : tie.InvT-loop
-Inv-loop f n column widest₀ k₀ widest k = k ≤ mostTasks
+Inv-loop f n column cabinet house widest₀ k₀ widest k = k ≤ n
 
 abbrev μ-loop : tie.MeasureT-loop
-μ-loop f n column widest₀ k₀ widest k = mostTasks - k
+μ-loop f n column cabinet house widest₀ k₀ widest k = n - k
 
 heading-width-requires : tie.Need-heading-width-requires Inv-loop μ-loop
 heading-width-requires c κs = search needs
@@ -17,11 +16,8 @@ heading-width-requires c κs = search needs
 loop-holds : tie.Need-loop-holds Inv-loop μ-loop
 loop-holds c = search needs
 
-cell-requires : tie.Need-cell-requires Inv-loop μ-loop
-cell-requires c κs = search needs
-
-width-of-requires : tie.Need-width-of-requires Inv-loop μ-loop
-width-of-requires c κs = search needs
+width-requires : tie.Need-width-requires Inv-loop μ-loop
+width-requires c κs = search needs
 
 larger-requires : tie.Need-larger-requires Inv-loop μ-loop
 larger-requires c κs = search needs
@@ -38,9 +34,6 @@ loop-again c = search needs
 returns : tie.Need-returns Inv-loop μ-loop
 returns c = search needs
 
-returns-2 : tie.Need-returns-2 Inv-loop μ-loop
-returns-2 c = search needs
-
 pub column-width-spec : {M : Type 1} → statement M
 column-width-spec =
     tie.close
@@ -49,11 +42,9 @@ column-width-spec =
     μ-loop
     heading-width-requires
     loop-holds
-    cell-requires
-    width-of-requires
+    width-requires
     larger-requires
     add-k
     loop-less
     loop-again
-    returns
-    returns-2)
+    returns)

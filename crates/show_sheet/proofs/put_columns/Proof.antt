@@ -7,16 +7,13 @@ use Rattle.show_sheet.proofs.put_columns.Statement.{statement}
 use Rattle.show_sheet.proofs.put_columns.Tie as tie
 
 abbrev Inv-loop : tie.InvT-loop
-Inv-loop buf₀ at f k widths end₀ c₀ buf end c = (length buf ≡ length buf₀) × (end ≤ length buf₀) × (c ≤ 10)
+Inv-loop buf₀ at f row widths end₀ c₀ buf end c = (length buf ≡ length buf₀) × (end ≤ length buf₀) × (c ≤ 10)
 
 abbrev μ-loop : tie.MeasureT-loop
-μ-loop buf₀ at f k widths end₀ c₀ buf end c = 10 - c
+μ-loop buf₀ at f row widths end₀ c₀ buf end c = 10 - c
 
 loop-holds : tie.Need-loop-holds Inv-loop μ-loop
 loop-holds c = search needs
-
-cell-requires : tie.Need-cell-requires Inv-loop μ-loop
-cell-requires c κs = search needs
 
 mul-put-column : tie.Need-mul-put-column Inv-loop μ-loop
 mul-put-column c = search needs
@@ -49,7 +46,6 @@ put-columns-spec =
     Inv-loop
     μ-loop
     loop-holds
-    cell-requires
     mul-put-column
     array-read-put-column
     put-column-requires

@@ -3,15 +3,14 @@ use Prim.Native.Nat.{_≤_, _-_}
 use mathlib.Core.Path.{_≡_}
 use borrow.Author.Needs.{needs}
 use lib.ListN.{length}
-use Rattle.paper.specs.Numbers.{mostTasks}
 use Rattle.show_sheet.proofs.put_table.Statement.{statement}
 use Rattle.show_sheet.proofs.put_table.Tie as tie
 
 abbrev Inv-loop : tie.InvT-loop
-Inv-loop buf₀ at f n widths own catalogue cabinet house end₀ k₀ buf end k = (length buf ≡ length buf₀) × (end ≤ length buf₀) × (k ≤ mostTasks)
+Inv-loop buf₀ at f n widths own catalogue cabinet house end₀ k₀ buf end k = (length buf ≡ length buf₀) × (end ≤ length buf₀) × (k ≤ n)
 
 abbrev μ-loop : tie.MeasureT-loop
-μ-loop buf₀ at f n widths own catalogue cabinet house end₀ k₀ buf end k = mostTasks - k
+μ-loop buf₀ at f n widths own catalogue cabinet house end₀ k₀ buf end k = n - k
 
 loop-holds : tie.Need-loop-holds Inv-loop μ-loop
 loop-holds c = search needs
@@ -34,12 +33,6 @@ same-length c = search needs
 returns : tie.Need-returns Inv-loop μ-loop
 returns c = search needs
 
-same-length-2 : tie.Need-same-length-2 Inv-loop μ-loop
-same-length-2 c = search needs
-
-returns-2 : tie.Need-returns-2 Inv-loop μ-loop
-returns-2 c = search needs
-
 pub put-table-spec : {M : Type 1} → statement M
 put-table-spec =
     tie.close
@@ -52,6 +45,4 @@ put-table-spec =
     loop-less
     loop-again
     same-length
-    returns
-    same-length-2
-    returns-2)
+    returns)

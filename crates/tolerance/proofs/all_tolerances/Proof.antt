@@ -1,23 +1,23 @@
 -- The invariant: the first i tolerances are in the array, and the others are 0 still.
 use Prim.Native.Nat.{_-_, _≤_}
 use mathlib.Core.Path.{_≡_, _∙_}
-use mathlib.Core.List.{[]}
 use native.Mathlib.Omega.{arith}
 use lib.IntN.{pos}
 use Rattle.paper.specs.Numbers.{perTask}
 use Rattle.paper.specs.Lengths.{tolerance}
-use Rattle.laws.proofs.Lists.{per-task-none, per-task-turn, per-task-done}
-use Rattle.columns.specs.Columns.{tasksBy, assignedBy}
+use Rattle.laws.proofs.Every.{at-end}
+use Rattle.laws.proofs.Lists.{per-task-none, per-task-turn}
+use Rattle.columns.specs.Columns.{tasksBy, rankedBy}
 use Rattle.tolerance.proofs.Machine.{kept}
 use Rattle.tolerance.proofs.all_tolerances.Statement.{statement}
 use Rattle.tolerance.proofs.all_tolerances.Tie as tie
 
 abbrev Inv-loop : tie.InvT-loop
-Inv-loop costs periods deadlines priorities n ticks₀ i₀ ticks i =
-    (i ≤ n) × (ticks ≡ perTask i (tolerance (tasksBy n costs periods deadlines) (assignedBy priorities [])) (pos 0))
+Inv-loop n y p ticks₀ i₀ ticks i =
+    (i ≤ n) × (ticks ≡ perTask i (tolerance (tasksBy n y) (rankedBy p)) (pos 0))
 
 abbrev μ-loop : tie.MeasureT-loop
-μ-loop costs periods deadlines priorities n ticks₀ i₀ ticks i = n - i
+μ-loop n y p ticks₀ i₀ ticks i = n - i
 
 loop-holds : tie.Need-loop-holds Inv-loop μ-loop
 loop-holds c = (omega arith, per-task-none _ (pos 0))
@@ -49,7 +49,7 @@ loop-again c =
     )
 
 returns : tie.Need-returns Inv-loop μ-loop
-returns c = per-task-done (c .before .loop .i) (c .before .before .args .n) _ (pos 0) (c .before .loop .inv .1) (omega arith)
+returns c = at-end (λ i f. perTask i f (pos 0)) _ _ (c .before .loop .inv .1) (omega arith)
 
 pub all-tolerances-spec : {M : Type 1} → statement M
 all-tolerances-spec =

@@ -1,4 +1,6 @@
 -- `unpack::record_in` meets its contract.
+use mathlib.Core.Path.{sym, _∙_}
+use Rattle.paper.proofs.Places.{record-places}
 use borrow.Author.Needs.{needs}
 use Rattle.unpack.proofs.record_in.Statement.{statement}
 use Rattle.unpack.proofs.record_in.Tie as tie
@@ -88,7 +90,7 @@ cast-name : tie.Need-cast-name
 cast-name c = search needs
 
 returns : tie.Need-returns
-returns c = cc
+returns c = sym (record-places _ _ ∙ (cc))
 
 pub record-in-spec : {M : Type 1} → statement M
 record-in-spec =

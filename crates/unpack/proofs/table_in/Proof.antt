@@ -1,9 +1,9 @@
 -- `unpack::table_in` meets its contract. The loop's invariant: the records before k are there, the others zero still.
 use Prim.Native.Nat.{_-_, _≤_}
-use mathlib.Core.Path.{_≡_, refl}
+use mathlib.Core.Path.{_≡_, refl, ap, _∙_}
 use native.Mathlib.Omega.{arith}
 use Rattle.paper.specs.File.{recordsIn}
-use Rattle.laws.proofs.Lists.{per-task-none, per-task-turn, per-task-done}
+use Rattle.laws.proofs.Lists.{per-task-none, per-task-turn}
 use borrow.Author.Needs.{needs}
 use Rattle.unpack.proofs.table_in.Statement.{statement}
 use Rattle.unpack.proofs.table_in.Tie as tie
@@ -40,7 +40,7 @@ loop-again c =
     (omega arith, per-task-turn (c .before .before .loop .k) _ _ (omega arith) (c .before .before .loop .inv .1) (c .record-in .ensures))
 
 returns : tie.Need-returns Inv-loop μ-loop
-returns c = (refl, per-task-done (c .before .loop .k) _ _ _ (c .before .loop .inv .1) (omega arith))
+returns c = (refl, c .before .loop .inv .1 ∙ ap (recordsIn _) (omega arith))
 
 pub table-in-spec : {M : Type 1} → statement M
 table-in-spec =

@@ -1,9 +1,9 @@
 -- `unpack::words_in` meets its contract. The loop's invariant: the words before k are there, the others zero still.
 use Prim.Native.Nat.{_-_, _≤_}
-use mathlib.Core.Path.{_≡_}
+use mathlib.Core.Path.{_≡_, ap, _∙_}
 use native.Mathlib.Omega.{arith}
 use Rattle.unpack.specs.Unpack.{wordsArray}
-use Rattle.unpack.proofs.Words.{array-none, array-turn, array-done}
+use Rattle.unpack.proofs.Words.{array-none, array-turn}
 use Rattle.unpack.proofs.words_in.Statement.{statement}
 use Rattle.unpack.proofs.words_in.Tie as tie
 
@@ -51,7 +51,7 @@ loop-again c =
     (omega arith, array-turn _ _ (c .before .before .loop .k) (omega arith) (c .before .before .loop .inv .1) (c .get .ensures .0))
 
 returns : tie.Need-returns Inv-loop μ-loop
-returns c = array-done _ _ (c .before .loop .k) _ (c .before .loop .inv .1) (omega arith)
+returns c = c .before .loop .inv .1 ∙ ap (wordsArray _ _) (omega arith)
 
 pub words-in-spec : {M : Type 1} → statement M
 words-in-spec =

@@ -1,15 +1,14 @@
 -- `show::unnamed::first_of` ends: the measure is the number of jobs that are left.
 use Prim.Native.Nat.{_≤_, _-_}
 use borrow.Author.Needs.{needs}
-use Rattle.paper.specs.Numbers.{mostTasks}
 use Rattle.show.proofs.unnamed.first_of.Statement.{statement}
 use Rattle.show.proofs.unnamed.first_of.Tie as tie
 
 abbrev Inv-loop : tie.InvT-loop
-Inv-loop n cabinet house rs k₀ k = k ≤ mostTasks
+Inv-loop n cabinet house rs k₀ k = k ≤ n
 
 abbrev μ-loop : tie.MeasureT-loop
-μ-loop n cabinet house rs k₀ k = mostTasks - k
+μ-loop n cabinet house rs k₀ k = n - k
 
 loop-holds : tie.Need-loop-holds Inv-loop μ-loop
 loop-holds c = search needs
@@ -41,9 +40,6 @@ loop-again c = search needs
 returns-2 : tie.Need-returns-2 Inv-loop μ-loop
 returns-2 c = search needs
 
-returns-3 : tie.Need-returns-3 Inv-loop μ-loop
-returns-3 c = search needs
-
 pub first-of-spec : {M : Type 1} → statement M
 first-of-spec =
     tie.close
@@ -59,5 +55,4 @@ first-of-spec =
     add-k
     loop-less
     loop-again
-    returns-2
-    returns-3)
+    returns-2)

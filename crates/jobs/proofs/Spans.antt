@@ -1,0 +1,94 @@
+-- A job's span says its start and its finish, and L says how many jobs there are.
+use Prim.Native.Nat.{ℕ, _≤_}
+use mathlib.Core.Path.{_≡_, refl, ap, _∙_}
+use native.Mathlib.Omega.{arith}
+use native.Mathlib.Nat.{le-trans}
+use Rattle.paper.specs.Vocabulary.{ceilDiv}
+use Rattle.paper.specs.Numbers.{horizon}
+use Rattle.paper.specs.Analysis.{Tasks, Standing, before, levelOf, startOf, finishOf, finishFrom, job, worst, worstFrom, response}
+use Rattle.paper.specs.declared.Time.{Time}
+use Rattle.paper.specs.declared.Time.the-variants.{At, Beyond}
+use Rattle.laws.proofs.Arrivals.{ceil-bound}
+use Rattle.jobs.specs.Stands.{finished, spanFrom, spanOf, countFrom, jobCount}
+use Rattle.jobs.specs.declared.Span.{Span}
+use Rattle.jobs.specs.declared.Span.the-variants.{Ends}
+
+module _ (y : Tasks) (s : Standing) (i k : ℕ) where
+  pub span-no-start : startOf y s i k ≡ Beyond → Span.Beyond ≡ spanOf y s i k
+  unfolding spanOf spanFrom
+  span-no-start e = rw e
+
+  pub span-no-finish : (v : ℕ) → startOf y s i k ≡ At v → finishOf y s i v ≡ Beyond → Span.Beyond ≡ spanOf y s i k
+  unfolding spanOf spanFrom finished
+  span-no-finish v e g = rw (e, g)
+
+  pub span-ends : (v f : ℕ) → startOf y s i k ≡ At v → finishOf y s i v ≡ At f → Ends v f ≡ spanOf y s i k
+  unfolding spanOf spanFrom finished
+  span-ends v f e g = rw (e, g)
+
+  pub record Ended (v f : ℕ) : Type 0 where
+    pub start : startOf y s i k ≡ At v
+    pub finish : job y s i k ≡ At f
+
+  pub ended : (v f : ℕ) → spanOf y s i k ≡ Ends v f → Ended v f
+  unfolding spanOf spanFrom finished job finishFrom
+  ended v f e = begun (startOf y s i k) refl e
+    where
+      begun : (a : Time) → startOf y s i k ≡ a → spanFrom y s i a ≡ Ends v f → Ended v f
+      begun (At u) ea h = go (finishOf y s i u) refl h
+        where
+          go : (b : Time) → finishOf y s i u ≡ b → finished u b ≡ Ends v f → Ended v f
+          go (At w) eb q =
+              let eu : u ≡ v = cc in
+              let ew : w ≡ f = cc in
+              record { start = ea ∙ ap At eu; finish = rw ea (eb ∙ ap At ew) }
+          go Beyond eb q = let z : _≡_ {A = ℕ} 0 1 = cc in absurd (omega arith)
+      begun Beyond ea h = let z : _≡_ {A = ℕ} 0 1 = cc in absurd (omega arith)
+
+  pub beyond : spanOf y s i k ≡ Span.Beyond → job y s i k ≡ Beyond
+  unfolding spanOf spanFrom finished job finishFrom
+  beyond e = begun (startOf y s i k) e
+    where
+      begun : (a : Time) → spanFrom y s i a ≡ Span.Beyond → finishFrom y s i a ≡ Beyond
+      begun (At u) h = go (finishOf y s i u) h
+        where
+          go : (b : Time) → finished u b ≡ Span.Beyond → b ≡ Beyond
+          go (At w) q = let z : _≡_ {A = ℕ} 0 1 = cc in absurd (omega arith)
+          go Beyond q = refl
+      begun Beyond h = refl
+
+-- the number of jobs, by L
+module _ (y : Tasks) (s : Standing) (i : ℕ) where
+  pub count-at : (l period jobs : ℕ) → levelOf y s ≡ At l → period ≡ y .t i → jobs ≡ ceilDiv l period → At jobs ≡ jobCount y s i
+  unfolding jobCount countFrom before
+  count-at l period jobs h e j = rw (h, ← e, j)
+
+  pub count-beyond : levelOf y s ≡ Beyond → Beyond ≡ jobCount y s i
+  unfolding jobCount countFrom
+  count-beyond h = rw h
+
+  -- no more jobs than ticks
+  pub count-bound : (jobs : ℕ) → 1 ≤ y .t i → ((l : ℕ) → levelOf y s ≡ At l → l ≤ horizon) → jobCount y s i ≡ At jobs → jobs ≤ horizon
+  unfolding jobCount countFrom before
+  count-bound jobs ht range h = go (levelOf y s) refl h
+    where
+      go : (v : Time) → levelOf y s ≡ v → countFrom y i v ≡ At jobs → jobs ≤ horizon
+      go (At l) f e = let z : ceilDiv l (y .t i) ≡ jobs = cc in rw (← z) (le-trans (ceil-bound (y .t i) l ht) (range l f))
+      go Beyond f e = let z : _≡_ {A = ℕ} 0 1 = cc in absurd (omega arith)
+
+  -- R is the worst of these
+  pub response-at : (jobs : ℕ) → jobCount y s i ≡ At jobs → worst y s i jobs ≡ response y s i
+  unfolding jobCount countFrom response worstFrom
+  response-at jobs h = go (levelOf y s) h
+    where
+      go : (v : Time) → countFrom y i v ≡ At jobs → worst y s i jobs ≡ worstFrom y s i v
+      go (At l) e = let z : before y l i ≡ jobs = cc in rw (← z)
+      go Beyond e = let z : _≡_ {A = ℕ} 0 1 = cc in absurd (omega arith)
+
+  pub response-beyond : jobCount y s i ≡ Beyond → response y s i ≡ Beyond
+  unfolding jobCount countFrom response worstFrom
+  response-beyond h = go (levelOf y s) h
+    where
+      go : (v : Time) → countFrom y i v ≡ Beyond → worstFrom y s i v ≡ Beyond
+      go (At l) e = let z : _≡_ {A = ℕ} 0 1 = cc in absurd (omega arith)
+      go Beyond e = refl

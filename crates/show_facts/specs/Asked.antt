@@ -1,0 +1,12 @@
+-- What the verdict asks of a job: one loop looks for the first job that doesn't meet it, whichever is asked.
+use Prim.Native.Nat.{ℕ}
+use mathlib.Core.Bool.{Bool, false}
+use lib.ListN.{getD}
+use Rattle.show_facts.specs.declared.Facts.{Facts}
+use Rattle.show_facts.specs.declared.Asked.{Asked}
+use Rattle.show_facts.specs.declared.Asked.the-variants.{Deadline, Regions}
+use Rattle.show_facts.specs.Sheet.{keepsAt}
+
+abbrev pub holdsAt : Facts → Asked → ℕ → Bool
+holdsAt f Deadline k = keepsAt f k
+holdsAt f Regions k = getD (f .fits) k false
