@@ -24,7 +24,7 @@ size bench_name(word name, const byte *list, size list_len);
 
 /* The plate of bench_write. */
 enum { CABINET = 70001, LINE = 12 };
-enum { TASKS = 8, WORDS = 100, FIELDS = 9, TABLE = 1 + TASKS * FIELDS * 4, FILE_ROOM = 1024, PAINT = 0xA5 };
+enum { TASKS = 15, REGIONS = 6, WORDS = 100, FIELDS = 9, TABLE = 1 + TASKS * FIELDS * 4, FILE_ROOM = 1024, PAINT = 0xA5 };
 
 static byte stack[1 << 20] __attribute__((aligned(64)));
 static byte table[TABLE], file[FILE_ROOM], row[2 * TASKS], next[2 * TASKS], names[1024];
@@ -35,11 +35,11 @@ static void put_word(byte *at, word x) {
     for (int k = 0; k < 4; k++) at[k] = x >> (24 - 8 * k);
 }
 
-/* Every task has twelve regions of one tick, and every threshold is 1, so that all tasks above block. */
+/* Every task has six regions of one tick, and every threshold is 1, so that all tasks above block. */
 static void make_inputs(void) {
     table[0] = TASKS;
     for (word k = 0; k < TASKS; k++) {
-        word fields[FIELDS] = {12, 1000 + k, 1000, k + 1, 1, 0, 12 * k, 12, k};
+        word fields[FIELDS] = {REGIONS, 1000 + k, 1000, k + 1, 1, 0, REGIONS * k, REGIONS, k};
         for (int f = 0; f < FIELDS; f++) put_word(table + 1 + 4 * (k * FIELDS + f), fields[f]);
     }
     for (int k = 0; k < WORDS; k++) own[k] = 1;
@@ -67,8 +67,10 @@ static void record(void) { answer = bench_record(file, file_len, CABINET, LINE, 
 static void regions(void) { answer = bench_regions(table, TABLE, own, WORDS, TASKS); }
 static void name(void) { answer = bench_name(63, names, sizeof names); }
 
-/* Runs the work on the painted stack and says how many bytes of it are no longer as they were painted. */
+/* Runs the work on the painted stack and says how many bytes of it are no longer as they were painted. It is run once before:
+   what the loader does at a first call, by its own means on each machine, is no part of it. */
 static size used(void (*work)(void)) {
+    work();
     for (size k = 0; k < sizeof stack; k++) stack[k] = PAINT;
     byte *top = stack + sizeof stack;
     __asm__ volatile("movq %%rsp, %%rbx\n\tmovq %0, %%rsp\n\tcall *%1\n\tmovq %%rbx, %%rsp"
@@ -106,7 +108,7 @@ int main(void) {
     printf("| `record` | %lu |\n", used(record));
     want(answer == 12);
     printf("| `regions` | %lu |\n", used(regions));
-    want(answer == 12);
+    want(answer == REGIONS);
     printf("| `name` | %lu |\n", used(name));
     want(answer == 16);
     return 0;

@@ -31,5 +31,6 @@ names() {
     printf '%-16s' "$@"
 }
 names 'gate scan' 'output test' 'stop circuit' 'two-hand check' 'light curtain' 'valve watch' \
+    'print mark' 'infeed drive' 'film feed' 'cutter drive' 'seal bar heat' 'reject gate' 'air pressure' \
     >"$folder/cabinet.names"
-names 'drive talk' 'lamp driver' 'event log' 'watchdog' >"$folder/house.names"
+names 'drive talk' 'lamp driver' 'event log' 'watchdog' 'panel keys' >"$folder/house.names"

@@ -34,7 +34,7 @@ pub const CALLS: [(&str, &[u8]); 11] = [
 /// A kind that stays unknown, whatever calls come: a request of it ends the stored stream.
 pub const NO_KIND: u8 = 255;
 
-const PLATE: Plate = Plate {
+pub const PLATE: Plate = Plate {
     cabinet: 70_002,
     line: 12,
 };
@@ -140,11 +140,35 @@ fn two_jobs() -> (Table, Vec<u32>) {
     (table, vec![2, 3, 1])
 }
 
-/// Eight tasks, all that a table holds.
+/// Eight tasks, which `show` is tried on.
 fn eight_jobs() -> (Table, Vec<u32>) {
     let tasks: Vec<(u32, u32, u32)> = (1..=8).map(|k| (k, 40 * k, 40 * k)).collect();
     let places: Vec<(u32, u32)> = (1..=8).map(|k: u32| (k, k.div_ceil(2))).collect();
     assigned(&tasks, &places)
+}
+
+/// Fifteen tasks, all that a table holds. Every other threshold is the priority itself, so that
+/// the last record has all four bits of both.
+fn fifteen_jobs() -> (Table, Vec<u32>) {
+    let tasks: Vec<(u32, u32, u32)> = (1..=15).map(|k| (k, 40 * k, 40 * k)).collect();
+    let places: Vec<(u32, u32)> = (1..=15)
+        .map(|k: u32| (k, if k % 2 == 1 { k } else { k / 2 }))
+        .collect();
+    assigned(&tasks, &places)
+}
+
+/// Fifteen tasks that pass in every row.
+fn fifteen_light_jobs() -> Table {
+    let tasks: Vec<(u32, u32, u32)> = (1..=15).map(|k| (k, 1000 + k, 1000)).collect();
+    unassigned(&tasks).0
+}
+
+/// The fifteen jobs with this n.
+fn fifteen_jobs_said_to_be(n: u8) -> Table {
+    Table {
+        n,
+        ..fifteen_jobs().0
+    }
 }
 
 /// The two jobs after a change of the table.
@@ -185,6 +209,45 @@ fn field_changed(at: usize, width: usize, value: u32) -> Vec<u8> {
     file
 }
 
+/// The fifteen jobs' file with one field changed, sealed anew.
+fn field_of_fifteen_changed(at: usize, width: usize, value: u32) -> Vec<u8> {
+    let (table, words) = fifteen_jobs();
+    let mut file = file_of(&table, &words, &[]);
+    put(&mut file, at, width, value);
+    seal_again(&mut file);
+    file
+}
+
+/// The fifteen jobs' file, unassigned, with other records in place of theirs and as many in n: all
+/// else is right, length and seal too.
+fn with_records(n: u32, records: impl Fn(&[u8]) -> Vec<u8>) -> Vec<u8> {
+    let (mut table, words) = fifteen_jobs();
+    clear(&mut table);
+    let mut file = file_of(&table, &words, &[]);
+    let place = in_record(0, 0) / 8..in_record(15, 0) / 8;
+    let others = records(&file[place.clone()]);
+    file.splice(place, others);
+    put(&mut file, N_AT, 8, n);
+    seal_again(&mut file);
+    file
+}
+
+/// A file of sixteen records, of which the last two are the same.
+pub fn sixteen_jobs_file() -> Vec<u8> {
+    with_records(16, |records| {
+        let last = records.len() / 15 * 14;
+        [records, &records[last..]].concat()
+    })
+}
+
+/// A file of no record.
+pub fn no_jobs_file() -> Vec<u8> {
+    with_records(0, |_| Vec::new())
+}
+
+/// Where n stands in the head.
+const N_AT: usize = 48;
+
 /// What a field of the two jobs' file is changed to, and where it starts and how wide it is, in
 /// the order of the numbers that turn the file away.
 const FIELDS: [(&str, usize, usize, u32); 30] = [
@@ -192,10 +255,10 @@ const FIELDS: [(&str, usize, usize, u32); 30] = [
     ("edition 2", 0, 4, 2),
     ("the file is another cabinet's", 8, 24, 70_003),
     ("the file is another line's", 32, 16, 13),
-    ("n is 0", 48, 8, 0),
-    ("n is 9", 48, 8, 9),
+    ("n is 0", N_AT, 8, 0),
+    ("n is 16", N_AT, 8, 16),
     ("m is 101", 56, 8, 101),
-    ("the length of another n", 48, 8, 3),
+    ("the length of another n", N_AT, 8, 3),
     ("the length of another m", 56, 8, 2),
     ("a spare bit of the head", 4, 4, 1),
     ("a spare bit of record 1", in_record(0, 90), 6, 32),
@@ -218,6 +281,19 @@ const FIELDS: [(&str, usize, usize, u32); 30] = [
     ("count 0", in_record(0, 76), 7, 0),
     ("a sum below the cost", in_record(1, 76), 7, 1),
     ("a region word of 0", WORDS, 20, 0),
+];
+
+/// The same of the fifteen jobs' file.
+const FIELDS_OF_FIFTEEN: [(&str, usize, usize, u32); 9] = [
+    ("n is 0 of fifteen", N_AT, 8, 0),
+    ("n is 16 of fifteen", N_AT, 8, 16),
+    ("n is 31 of fifteen", N_AT, 8, 31),
+    ("n is 14 of fifteen", N_AT, 8, 14),
+    ("the last spare bit of fifteen", in_record(14, 90), 6, 1),
+    ("the last deadline of fifteen 0", in_record(14, 40), 20, 0),
+    ("priority 14 of fifteen twice", in_record(14, 60), 4, 14),
+    ("threshold 15 of priority 14", in_record(13, 64), 4, 15),
+    ("the last word of fifteen 0", in_record(15, 280), 20, 0),
 ];
 
 /// Where the region words of two jobs start.
@@ -245,6 +321,11 @@ fn turned_away_files() -> Vec<(&'static str, Plate, Vec<u8>)> {
     put(&mut spare_and_cost, in_record(1, 90), 6, 1);
     seal_again(&mut spare_and_cost);
     add("a spare bit and a cost of 0", spare_and_cost);
+    for (what, at, width, value) in FIELDS_OF_FIFTEEN {
+        add(what, field_of_fifteen_changed(at, width, value));
+    }
+    add("sixteen records and all else right", sixteen_jobs_file());
+    add("no record and all else right", no_jobs_file());
     let wide = Plate {
         cabinet: PLATE.cabinet | 1 << 24,
         ..PLATE
@@ -369,10 +450,11 @@ fn reading(stream: &mut Stream) {
     let shortest = file_of(&lent(&one, 0, 0), &[], &[1]);
     stream.read("the shortest file: no word", 0, &[1], &shortest);
     stream.read("the same, another catalogue", 0, &[2], &shortest);
-    let (eight, mut words) = eight_jobs();
-    stream.read("eight tasks", 8, &[], &file_of(&eight, &words, &[]));
+    let (fifteen, mut words) = fifteen_jobs();
+    let file_of_fifteen = file_of(&fifteen, &words, &[]);
+    stream.read("fifteen tasks", 15, &[], &file_of_fifteen);
     words.resize(100, 1_000_000);
-    let longest = file_of(&eight, &words, &[]);
+    let longest = file_of(&fifteen, &words, &[]);
     stream.read("the longest file: 100 words", 100, &[], &longest);
     stream.read("the same, room for 99", 99, &[], &longest);
     let (largest, words) = unassigned(&[(1_000_000, 1_000_000, 1_000_000)]);
@@ -445,9 +527,17 @@ fn tables(changes: &[Change]) -> Vec<(&'static str, Table)> {
 fn out_of_range_tables() -> Vec<(&'static str, Table)> {
     let mut list = tables(&OUT_OF_RANGE);
     list.push(("n is 0", changed(|table| table.n = 0)));
-    list.push(("n is 9", changed(|table| table.n = 9)));
+    list.push(("n is 16", changed(|table| table.n = 16)));
     list.push(("n is 255", changed(|table| table.n = 255)));
     list
+}
+
+/// Turned away by 5 for n and by nothing else.
+fn wrong_n_alone() -> [(&'static str, Table); 2] {
+    [
+        ("fifteen records, n is 0", fifteen_jobs_said_to_be(0)),
+        ("fifteen records, n is 16", fifteen_jobs_said_to_be(16)),
+    ]
 }
 
 /// Turned away by 10.
@@ -478,10 +568,21 @@ fn writing(stream: &mut Stream) {
     stream.write("unassigned", 42, &changed(clear), &own);
     let (one, word) = unassigned(&[(1, 1, 1)]);
     stream.write("one task", 25, &one, &word);
-    let (eight, mut words) = eight_jobs();
+    let (fifteen, mut words) = fifteen_jobs();
+    stream.write("fifteen tasks", 228, &fifteen, &words);
+    for (what, table) in wrong_n_alone() {
+        stream.write(what, 300, &table, &words);
+    }
+    let mut sixteenth = fifteen;
+    sixteenth.records[14].priority = 16;
+    stream.write("priority 16 of fifteen", 300, &sixteenth, &words);
+    sixteenth.records[14] = fifteen.records[14];
+    sixteenth.records[14].threshold = 16;
+    stream.write("threshold 16 of fifteen", 300, &sixteenth, &words);
     words.resize(100, 1_000_000);
-    stream.write("the longest file", 356, &eight, &words);
-    stream.write("101 words", 400, &eight, &[1; 101]);
+    stream.write("the longest file", 440, &fifteen, &words);
+    stream.write("the same, one byte less", 439, &fifteen, &words);
+    stream.write("101 words", 500, &fifteen, &[1; 101]);
     let past = record_changed(2, |record| record.cost = u32::MAX);
     stream.write("records past n are not looked at", 42, &past, &own);
     let zero = [2, 3, 1, 0];
@@ -534,7 +635,7 @@ fn response_times(stream: &mut Stream) {
     let full = (600_000, most, most);
     let beyond = assigned(&[full, full], &[(1, 1), (2, 2)]).0;
     stream.analysis(3, "the second beyond", &beyond);
-    stream.analysis(3, "eight tasks", &eight_jobs().0);
+    stream.analysis(3, "fifteen tasks", &fifteen_jobs().0);
     let late = record_changed(0, |record| record.deadline = 1);
     stream.analysis(3, "a deadline below the cost", &late);
     stream.analysis(3, "a deadline above the period", &above_period());
@@ -547,6 +648,9 @@ fn response_times(stream: &mut Stream) {
 fn turned_away_analysis(stream: &mut Stream, kind: u8) {
     for (what, table) in out_of_range_tables().iter().chain(&bad_assignments()) {
         stream.analysis(kind, what, table);
+    }
+    for (what, table) in wrong_n_alone() {
+        stream.analysis(kind, what, &table);
     }
     stream.analysis(kind, "unassigned", &changed(clear));
 }
@@ -568,7 +672,7 @@ fn tolerances_and_lengths(stream: &mut Stream, kind: u8) {
     stream.analysis(kind, "both tolerances below zero", &both_below().0);
     let far = assigned(&[(most, 1, 1), (most, most, most)], &[(1, 1), (2, 2)]).0;
     stream.analysis(kind, "far below zero", &far);
-    stream.analysis(kind, "eight tasks", &eight_jobs().0);
+    stream.analysis(kind, "fifteen tasks", &fifteen_jobs().0);
     turned_away_analysis(stream, kind);
     stream.analysis(kind, "a deadline above its period", &above_period());
 }
@@ -597,6 +701,11 @@ fn region_check(stream: &mut Stream) {
     for (what, table) in turned_away_tables() {
         stream.check(what, &table, &own, &[]);
     }
+    let (fifteen, words) = fifteen_jobs();
+    stream.check("fifteen tasks", &fifteen, &words, &[]);
+    for (what, table) in wrong_n_alone() {
+        stream.check(what, &table, &words, &[]);
+    }
     stream.check("101 words", &table, &[1; 101], &[]);
     let zero = [2, 3, 1, 0];
     stream.check("an own word of 0 that no record names", &table, &zero, &[]);
@@ -621,7 +730,12 @@ fn rows(stream: &mut Stream) {
     stream.first_row("one task (3,2,2)", 2, &over);
     let largest = unassigned(&[(most, most, most)]).0;
     stream.first_row("one task of 1,000,000", 2, &largest);
-    stream.first_row("eight tasks", 16, &eight_jobs().0);
+    stream.first_row("fifteen tasks", 30, &fifteen_jobs().0);
+    stream.first_row("fifteen light tasks", 31, &fifteen_light_jobs());
+    stream.first_row("the same, room for 29", 29, &fifteen_light_jobs());
+    for (what, table) in wrong_n_alone() {
+        stream.first_row(what, 32, &table);
+    }
     let ignored = &bad_assignments()[0].1;
     stream.first_row("the table's assignment is ignored", 4, ignored);
     stream.first_row("room for one number less", 3, &paper);
@@ -635,8 +749,7 @@ fn rows(stream: &mut Stream) {
     stream.next_row("after the last", 5, &paper, &[2, 1, 2, 1]);
     stream.next_row("from a row that fails", 5, &only, &[1, 2, 1, 1]);
     stream.next_row("after the only row", 4, &only, &[1, 2, 1, 2]);
-    let last = [8, 7, 6, 5, 4, 3, 2, 1, 8, 7, 6, 5, 4, 3, 2, 1];
-    stream.next_row("the last row of eight", 16, &eight_jobs().0, &last);
+    next_rows_of_fifteen(stream);
     stream.next_row("room for one number less", 3, &paper, &[1, 2, 1, 1]);
     stream.next_row("the same, at the end", 3, &paper, &[2, 1, 2, 1]);
     for (what, row) in BAD_ROWS {
@@ -645,6 +758,42 @@ fn rows(stream: &mut Stream) {
     stream.next_row("no room and a bad row", 3, &paper, &[1, 2]);
     for (what, table) in out_of_range_tables() {
         stream.next_row(what, 4, &table, &[1, 2, 1, 1]);
+    }
+}
+
+/// Near the first row of all, in the middle, and at the end, of tasks that pass in every row.
+fn next_rows_of_fifteen(stream: &mut Stream) {
+    let light = fifteen_light_jobs();
+    let row = |order: [u8; 15], thresholds: [u8; 15]| [order, thresholds].concat();
+    let rising = [1, 2, 3, 4, 5, 6, 7, 8, 9, 10, 11, 12, 13, 14, 15];
+    let falling = [15, 14, 13, 12, 11, 10, 9, 8, 7, 6, 5, 4, 3, 2, 1];
+    let middle = [8, 15, 1, 7, 14, 2, 6, 13, 3, 5, 12, 4, 11, 9, 10];
+    let some = [3, 5, 8, 12, 9, 1, 2, 1, 14, 15, 13, 10, 7, 5, 2];
+    let before_last = [15, 14, 13, 12, 11, 10, 9, 8, 7, 6, 5, 4, 3, 1, 1];
+    let rising_but = |place: usize, number: u8| {
+        let mut numbers = rising;
+        numbers[place] = number;
+        numbers
+    };
+    for (what, row) in [
+        ("the first row of fifteen", row(rising, [1; 15])),
+        ("the last row of an order of fifteen", row(rising, rising)),
+        ("a row in the middle of fifteen", row(middle, some)),
+        ("the last row but one of fifteen", row(falling, before_last)),
+        ("the last row of fifteen", row(falling, falling)),
+        ("record 16 of fifteen", row(rising_but(14, 16), [1; 15])),
+        (
+            "threshold 15 of priority 14",
+            row(rising, rising_but(13, 15)),
+        ),
+        ("threshold 16 of fifteen", row(rising, rising_but(14, 16))),
+        ("29 numbers of fifteen", row(rising, [1; 15])[..29].to_vec()),
+    ] {
+        stream.next_row(what, 30, &light, &row);
+    }
+    stream.next_row("room for 29", 29, &light, &row(rising, rising));
+    for (what, table) in wrong_n_alone() {
+        stream.next_row(what, 32, &table, &row(rising, rising));
     }
 }
 
@@ -667,9 +816,10 @@ fn records(stream: &mut Stream) {
     stream.record("record 0", 0, &[], &file);
     stream.record("record 3 of two", 3, &[], &file);
     stream.record("record 65,535", 65_535, &[], &file);
-    let (eight, words) = eight_jobs();
-    let eight = file_of(&eight, &words, &[]);
-    stream.record("record 8 of eight", 8, &[], &eight);
+    let (fifteen, words) = fifteen_jobs();
+    let fifteen = file_of(&fifteen, &words, &[]);
+    stream.record("record 15 of fifteen", 15, &[], &fifteen);
+    stream.record("record 16 of fifteen", 16, &[], &fifteen);
     let (table, own) = two_jobs();
     let of_catalogue = file_of(&lent(&table, 0, 0), &own, &[2]);
     stream.record("regions in the catalogue", 1, &[2], &of_catalogue);
@@ -702,7 +852,13 @@ fn regions(stream: &mut Stream) {
     stream.regions("record 0", 0, &table, &own, &[]);
     stream.regions("record 3 of two", 3, &table, &own, &[]);
     stream.regions("101 words", 1, &table, &[2; 101], &[]);
-    for n in [0, 9] {
+    let (fifteen, words) = fifteen_jobs();
+    stream.regions("record 15 of fifteen", 15, &fifteen, &words, &[]);
+    stream.regions("record 16 of fifteen", 16, &fifteen, &words, &[]);
+    for (what, table) in wrong_n_alone() {
+        stream.regions(what, 1, &table, &words, &[]);
+    }
+    for n in [0, 16] {
         let table = changed(|table| table.n = n);
         stream.regions("n out of range", 1, &table, &own, &[]);
     }

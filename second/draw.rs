@@ -1,7 +1,7 @@
 //! Cabinets, rows and name lists drawn from random numbers: all of them good, so that a call
 //! takes them. What makes them wrong stands in spoil.rs.
 
-use crate::analysis::{passes, Tasks};
+use crate::analysis::{passes, response_time, Tasks};
 use crate::lengths::lengths;
 use crate::random::Random;
 use crate::table::*;
@@ -51,7 +51,7 @@ pub fn cabinet(random: &mut Random, n: u32, lent: bool) -> Cabinet {
             order_by_deadline(&mut cabinet.table);
         }
     }
-    if random.once_in(6) {
+    if random.once_in(5) {
         unnamed_words(random, &mut cabinet.own);
     }
     cabinet
@@ -154,6 +154,23 @@ fn calm_times(random: &mut Random, table: &mut Table, load: u32) {
         } else {
             random.from(record.period / 2, record.period)
         };
+    }
+}
+
+/// Nearly the full load, periods of much the same length and deadlines above them, the shortest
+/// period the highest where the table is assigned: later jobs are often the worst.
+pub fn full_times(random: &mut Random, table: &mut Table) {
+    let n = table.n as u32;
+    let shortest = random.one_of(&[3 * n, 10 * n, 300]);
+    let load = random.from(88, 100);
+    for record in &mut table.records[..n as usize] {
+        record.period = random.from(shortest, 2 * shortest);
+        record.cost = share(record.period, load, n);
+        record.deadline = record.period;
+    }
+    order_by_deadline(table);
+    for record in &mut table.records[..n as usize] {
+        record.deadline += random.from(0, record.period);
     }
 }
 
@@ -288,11 +305,12 @@ fn name_run(
     }
 }
 
-/// New own words for a record, at most twelve, so that eight records stay below a hundred.
+/// New own words for a record, at most its share of what a file holds.
 fn own_words(random: &mut Random, cabinet: &mut Cabinet, k: usize, mood: Mood) {
+    let share = MOST_REGION_WORDS as u32 / cabinet.table.n as u32;
     let record = &mut cabinet.table.records[k];
     let most = match mood {
-        Mood::Calm => 12,
+        Mood::Calm => share.min(12),
         Mood::Brim if random.once_in(2) => 1,
         _ => 4,
     };
@@ -336,6 +354,20 @@ pub fn cut_to_lengths(random: &mut Random, cabinet: &mut Cabinet) {
     (cabinet.table, cabinet.own) = (table, own);
 }
 
+/// A task, mostly the lowest, runs in one region, which seldom fits.
+pub fn one_region(random: &mut Random, cabinet: &mut Cabinet) {
+    let n = cabinet.table.n as usize;
+    if cabinet.own.len() == MOST_REGION_WORDS {
+        return;
+    }
+    let any = random.place(n);
+    let lowest = (0..n).max_by_key(|k| cabinet.table.records[*k].priority);
+    let k = random.one_of(&[any, lowest.unwrap_or(any), lowest.unwrap_or(any)]);
+    let record = &mut cabinet.table.records[k];
+    (record.source, record.first, record.count) = (Source::Own, cabinet.own.len() as u32, 1);
+    cabinet.own.push(record.cost);
+}
+
 /// A region of the first task that can do so takes a tick from the one behind it.
 fn lengthen_one(table: &Table, own: &mut [u32]) {
     for task in table.tasks() {
@@ -364,51 +396,90 @@ fn pieces(cost: u32, length: u32) -> Vec<u32> {
 
 /// The fewest tasks of a table that has too many rows to walk over all of them.
 pub const MANY_TASKS: u32 = 5;
+/// Sizes up to this one are drawn more often than larger ones.
+pub const SOME_TASKS: u32 = 8;
 
 /// A table of many tasks whose first passing row is one of the first n·(n-1): both programs walk
 /// row by row, so it must be near. Half the time it is the first row of all.
 pub fn near_table(random: &mut Random) -> Table {
+    let some = random.from(MANY_TASKS, SOME_TASKS);
+    let more = random.from(SOME_TASKS + 1, MOST_TASKS as u32);
+    let n = random.one_of(&[some, more]);
     let row_of_all = random.once_in(2);
     loop {
-        let mut table = Table {
-            n: random.from(MANY_TASKS, MOST_TASKS as u32) as u8,
-            ..Table::default()
-        };
-        let load = random.from(5, 75);
-        calm_times(random, &mut table, load);
-        give_names(random, &mut table);
-        table.records[..table.n as usize].sort_by_key(|record| record.deadline);
-        if row_passes(&table, &first_row(table.n as usize)) == row_of_all && first_rows_pass(&table)
-        {
-            return table;
-        }
-    }
-}
-
-/// Whether one of the first rows passes: record 1 to n in this order, all thresholds 1 but those
-/// of the last two records, which are the first to move.
-fn first_rows_pass(table: &Table) -> bool {
-    let mut tasks = Tasks::of(table);
-    let n = tasks.n;
-    for k in 0..n {
-        (tasks.priority[k], tasks.threshold[k]) = (k as u32 + 1, 1);
-    }
-    for before_last in 1..n as u32 {
-        for last in 1..=n as u32 {
-            (tasks.threshold[n - 2], tasks.threshold[n - 1]) = (before_last, last);
-            if passes(&tasks) {
-                return true;
+        let mut table = light_table(random, n);
+        let first = first_row(n as usize);
+        if row_of_all {
+            if row_passes(&table, &first) {
+                return table;
+            }
+        } else {
+            // The thresholds of the last two records are the first to move.
+            let mut row = first.clone();
+            row[2 * n as usize - 2] = random.from(1, n - 1) as u8;
+            row[2 * n as usize - 1] = random.from(1, n) as u8;
+            if pass_at(random, &mut table, &row, &first) {
+                return table;
             }
         }
     }
-    false
 }
 
-/// A row shortly before one that passes, or shortly before the last row of all.
-pub fn near_row(random: &mut Random, table: &Table) -> Vec<u8> {
-    let mut row = match random.from(0, 2) {
-        0 => last_row(table.n as usize),
-        _ => passing_row(random, table),
+/// Tasks with time to spare, the earliest deadline first.
+fn light_table(random: &mut Random, n: u32) -> Table {
+    let mut table = Table {
+        n: n as u8,
+        ..Table::default()
+    };
+    let load = random.from(5, 75);
+    calm_times(random, &mut table, load);
+    give_names(random, &mut table);
+    table.records[..n as usize].sort_by_key(|record| record.deadline);
+    table
+}
+
+/// Gives the table deadlines at which this row passes and the other one fails. Says no, and leaves
+/// the table alone, where deadlines can't do that.
+fn pass_at(random: &mut Random, table: &mut Table, row: &[u8], other: &[u8]) -> bool {
+    let Some(times) = times_of(table, row)
+        .into_iter()
+        .collect::<Option<Vec<u32>>>()
+    else {
+        return false;
+    };
+    let mut later = Vec::new();
+    for (k, time) in times_of(table, other).into_iter().enumerate() {
+        let time = time.unwrap_or(MOST_TICKS + 1);
+        if time > times[k] {
+            later.push((k, time));
+        }
+    }
+    if later.is_empty() {
+        return false;
+    }
+    for (record, time) in table.records.iter_mut().zip(&times) {
+        record.deadline = record.deadline.max(*time);
+    }
+    let (k, time) = random.one_of(&later);
+    let any = random.from(times[k], time - 1);
+    table.records[k].deadline = random.one_of(&[times[k], time - 1, any]);
+    true
+}
+
+/// The response times of the table in this row.
+fn times_of(table: &Table, row: &[u8]) -> Vec<Option<u32>> {
+    let tasks = tasks_in(table, row);
+    let time = |i| response_time(&tasks, i).map(|time| time as u32);
+    (0..tasks.n).map(time).collect()
+}
+
+/// A row shortly before one that passes, or shortly before the last row of all. The table's
+/// deadlines may change for it.
+pub fn near_row(random: &mut Random, table: &mut Table) -> Vec<u8> {
+    let mut row = match random.from(0, 6) {
+        0..=2 => last_row(table.n as usize),
+        3 | 4 => passing_row(random, table),
+        _ => row_made_to_pass(random, table),
     };
     for _ in 0..random.one_of(&[0, 1, 1, 2, 5, 12, 30]) {
         step_back(&mut row);
@@ -431,14 +502,36 @@ fn passing_row(random: &mut Random, table: &Table) -> Vec<u8> {
     last_row(table.n as usize)
 }
 
+/// A row with which the table is made to pass while it fails with the row before; if that can't
+/// be had, the last row of all.
+fn row_made_to_pass(random: &mut Random, table: &mut Table) -> Vec<u8> {
+    for _ in 0..20 {
+        let mut row = any_row(random, table.n as usize);
+        if random.once_in(2) {
+            row[table.n as usize..].fill(1);
+        }
+        let mut before = row.clone();
+        step_back(&mut before);
+        if pass_at(random, table, &row, &before) {
+            return row;
+        }
+    }
+    last_row(table.n as usize)
+}
+
 fn row_passes(table: &Table, row: &[u8]) -> bool {
+    passes(&tasks_in(table, row))
+}
+
+/// The table's tasks with this row's assignment.
+fn tasks_in(table: &Table, row: &[u8]) -> Tasks {
     let mut tasks = Tasks::of(table);
     let (order, thresholds) = row.split_at(tasks.n);
     for place in 0..tasks.n {
         tasks.priority[order[place] as usize - 1] = place as u32 + 1;
         tasks.threshold[place] = thresholds[place] as u32;
     }
-    passes(&tasks)
+    tasks
 }
 
 /// A well-formed row of n tasks.

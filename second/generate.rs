@@ -4,15 +4,18 @@
 //! stream is to reach, and did reach, is counted in reach.rs.
 
 use crate::analysis::{active_period, Tasks};
+use crate::checks::{numbers_wrong, task_count_wrong};
 use crate::draw::*;
 use crate::file;
+use crate::listing::{Row, Walk};
 use crate::random::Random;
 use crate::spoil::*;
 use crate::table::*;
 
 /// The kinds as often as they are drawn: more often those that have more to reach.
-const KINDS: [u8; 28] = [
-    1, 1, 1, 2, 2, 3, 3, 4, 4, 5, 5, 5, 6, 6, 6, 7, 7, 8, 8, 9, 9, 9, 10, 10, 10, 11, 11, 11,
+const KINDS: [u8; 32] = [
+    1, 1, 1, 2, 2, 3, 3, 3, 4, 4, 5, 5, 5, 6, 6, 6, 6, 7, 7, 7, 8, 8, 8, 9, 9, 9, 10, 10, 10, 11,
+    11, 11,
 ];
 
 /// How many single requests stand between two files that are cut at every length.
@@ -22,7 +25,12 @@ pub fn stream(seed: u64, count: u64, out: &mut impl FnMut(&[u8])) {
     let random = &mut Random::new(seed);
     for k in 0..count {
         if k % BETWEEN_CUTS == 0 {
-            every_cut(random, out);
+            let cabinet = if k == 0 {
+                longest_cabinet(random)
+            } else {
+                any_cabinet(random)
+            };
+            every_cut(&cabinet, out);
         }
         let kind = random.one_of(&KINDS);
         let body = body(random, kind);
@@ -41,10 +49,20 @@ fn put_request(kind: u8, body: &[u8], out: &mut impl FnMut(&[u8])) {
     out(&request);
 }
 
-/// One file that reads, cut at every length, and one byte longer.
-fn every_cut(random: &mut Random, out: &mut impl FnMut(&[u8])) {
-    let cabinet = any_cabinet(random);
-    let mut file = whole_file(&cabinet);
+/// A cabinet whose file is as long as any.
+fn longest_cabinet(random: &mut Random) -> Cabinet {
+    loop {
+        let mut cabinet = cabinet(random, MOST_TASKS as u32, true);
+        cabinet.own.resize(MOST_REGION_WORDS, 1);
+        if cabinet.table.n as usize == MOST_TASKS {
+            return cabinet;
+        }
+    }
+}
+
+/// A file that reads, cut at every length, and one byte longer.
+fn every_cut(cabinet: &Cabinet, out: &mut impl FnMut(&[u8])) {
+    let mut file = whole_file(cabinet);
     file.push(0);
     for cut in 0..=file.len() {
         for kind in [1, 9] {
@@ -83,13 +101,20 @@ pub fn input(random: &mut Random, k: u64) -> Vec<u8> {
 /// Whether a row of this table is soon tried: not many jobs stand in its longest busy stretch. All
 /// rows are listed, so a table of long rows would take minutes.
 fn soon_tried(table: &Table) -> bool {
+    most_jobs(table) < 300
+}
+
+/// The most jobs that can stand in one busy stretch of this table, whatever the assignment: those
+/// of the lowest task with the largest cost as its blocking.
+fn most_jobs(table: &Table) -> u64 {
     let mut tasks = Tasks::of(table);
     for k in 0..tasks.n {
         tasks.priority[k] = k as u32 + 1;
     }
-    let stretch = active_period(&tasks, tasks.n - 1, 0).unwrap_or(MOST_TICKS as u64);
-    let jobs: u64 = tasks.period[..tasks.n].iter().map(|t| stretch / t).sum();
-    jobs < 300
+    let blocking = tasks.cost[..tasks.n].iter().copied().max().unwrap_or(0);
+    let stretch = active_period(&tasks, tasks.n - 1, blocking).unwrap_or(MOST_TICKS as u64);
+    let periods = tasks.period[..tasks.n].iter();
+    periods.map(|period| stretch.div_ceil(*period)).sum()
 }
 
 /// An input that this number turns away: files are drawn until one is.
@@ -106,7 +131,8 @@ fn turned_away_input(random: &mut Random, number: u8) -> Vec<u8> {
         }
     };
     if number == 6 && random.once_in(2) {
-        file.resize(random.from(400, 700) as usize, 0);
+        // Longer than any file is, so that it can't become the right length.
+        file.resize(random.from(450, 700) as usize, 0);
     }
     let mut input = plated(plate, &file);
     if number == 1 && random.once_in(2) {
@@ -131,10 +157,16 @@ fn body(random: &mut Random, kind: u8) -> Vec<u8> {
     }
 }
 
-/// A cabinet of any size, the largest more often than the others.
+/// A cabinet of any size, more often of few tasks, on which the cases that are hard to meet are
+/// met soonest, and of the most.
 fn any_cabinet(random: &mut Random) -> Cabinet {
-    let any = random.from(1, MOST_TASKS as u32);
-    let n = random.one_of(&[any, any, any, MOST_TASKS as u32]);
+    let some = random.from(1, SOME_TASKS);
+    let more = random.from(SOME_TASKS + 1, MOST_TASKS as u32);
+    let n = match random.from(0, 11) {
+        0..=5 => some,
+        6..=9 => more,
+        _ => MOST_TASKS as u32,
+    };
     let mut cabinet = cabinet(random, n, true);
     past_the_last(random, &mut cabinet.table);
     cabinet
@@ -203,10 +235,17 @@ fn of_analysis(random: &mut Random, kind: u8) -> Vec<u8> {
     let asked: &[u8] = match kind {
         3 => &[0, 0, 5, 9, 10, 14],
         6 => &[0, 0, 5, 9, 10, 11, 14, 15, 16],
-        _ => &[0, 0, 5, 9, 10, 14, 15, 16],
+        _ => &[0, 0, 0, 5, 9, 10, 14, 15, 16],
     };
-    if kind == 6 && random.once_in(3) {
-        cut_to_lengths(random, &mut cabinet);
+    if kind == 3 && random.once_in(4) {
+        full_times(random, &mut cabinet.table);
+    }
+    if kind == 6 {
+        match random.from(0, 5) {
+            0 | 1 => cut_to_lengths(random, &mut cabinet),
+            2 | 3 => one_region(random, &mut cabinet),
+            _ => {}
+        }
     }
     spoil(random, &mut cabinet, asked);
     let mut body = Vec::new();
@@ -218,22 +257,57 @@ fn of_analysis(random: &mut Random, kind: u8) -> Vec<u8> {
     body
 }
 
-/// A row is searched for. Of few tasks all rows can be walked over, so any table will do; of many
-/// the search must end soon.
+/// A row is searched for. Of few tasks all rows can be walked over; of many the table is drawn so
+/// that the search ends soon. Either way it is tried whether it does.
 fn of_rows(random: &mut Random, kind: u8) -> Vec<u8> {
-    let (table, row) = if random.once_in(2) {
-        rows_of_many(random)
-    } else {
-        rows_of_few(random)
+    let (table, row) = loop {
+        let (table, row) = if random.once_in(2) {
+            rows_of_few(random)
+        } else {
+            rows_of_many(random, kind)
+        };
+        let row = (kind == 8).then(|| spoilt_row(random, row));
+        if soon_answered(&table, row.as_deref()) {
+            break (table, row);
+        }
     };
     let n = (table.n as usize).min(MOST_TASKS);
     let mut body = Vec::new();
     put_two(&mut body, room(random, 2 * n));
     put_table(&mut body, &table);
-    if kind == 8 {
-        put_bytes(&mut body, &spoilt_row(random, row));
+    if let Some(row) = row {
+        put_bytes(&mut body, &row);
     }
     body
+}
+
+/// How many rows a search may try: all 576 of four tasks, and some.
+pub const MOST_ROWS_TRIED: u64 = 600;
+/// What a search may cost at the worst, so that it takes some thousandths of a second: the rows it
+/// tries, by the jobs that can stand in one row, by the tasks twice, as each task's jobs look at
+/// all tasks.
+const MOST_STEPS: u64 = 20_000_000;
+
+/// Whether the search for the row after this one, or for the first, is turned away, or comes to a
+/// row or the end before it costs too much. The walk itself is tried.
+fn soon_answered(table: &Table, row: Option<&[u8]>) -> bool {
+    if task_count_wrong(table.n) || numbers_wrong(table) {
+        return true;
+    }
+    let n = table.n as usize;
+    // Three tasks have 36 rows, few enough even where each is overloaded.
+    if n <= 3 {
+        return true;
+    }
+    let walk = match row {
+        None => Walk::from_start(table),
+        Some(row) => match Row::from_numbers(n, row) {
+            None => return true,
+            Some(row) => Walk::after(table, row),
+        },
+    };
+    let rows = MOST_STEPS / (most_jobs(table) * (n * n) as u64);
+    walk.is_near(rows.min(MOST_ROWS_TRIED))
 }
 
 fn rows_of_few(random: &mut Random) -> (Table, Vec<u8>) {
@@ -242,19 +316,23 @@ fn rows_of_few(random: &mut Random) -> (Table, Vec<u8>) {
     past_the_last(random, &mut cabinet.table);
     let row = any_row(random, cabinet.table.n as usize);
     if random.once_in(2) {
-        spoil(random, &mut cabinet, &[0, 0, 5, 9, 10, 14]);
+        spoil(random, &mut cabinet, &[0, 0, 5, 9, 10, 14, 16]);
     }
     (cabinet.table, row)
 }
 
 /// What is spoilt here is either asked before the search or ignored by it, so the row stays near.
-fn rows_of_many(random: &mut Random) -> (Table, Vec<u8>) {
+fn rows_of_many(random: &mut Random, kind: u8) -> (Table, Vec<u8>) {
     let mut table = near_table(random);
-    let row = near_row(random, &table);
+    let row = if kind == 8 {
+        near_row(random, &mut table)
+    } else {
+        Vec::new()
+    };
     past_the_last(random, &mut table);
     let k = random.place(table.n as usize);
     match random.from(0, 7) {
-        0 => table.n = random.one_of(&[0, 9, 255]),
+        0 => table.n = wrong_n(random),
         1 => wrong_number(random, &mut table.records[k]),
         2 => wrong_place(random, &mut table, k),
         _ => {}

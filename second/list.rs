@@ -1,5 +1,5 @@
-//! The listing program (document 01, "The list of assignments"): five plate bytes and then the
-//! file, with an empty catalogue.
+//! The listing program (document 01, "The list of assignments", and document 02, item 6): five
+//! plate bytes and then the file, with an empty catalogue.
 
 use crate::file;
 use crate::listing::Walk;
@@ -9,6 +9,8 @@ use std::io::{self, Read, Write};
 /// Bytes past these are not read. The longest file ends well before, so they change nothing.
 const MOST_BYTES_READ: u64 = 512;
 const PLATE_BYTES: usize = 5;
+/// No more rows than these are printed (document 02, item 6).
+const MOST_ROWS: u64 = 1_000_000;
 
 pub fn run(input: impl Read, output: &mut impl Write) -> io::Result<()> {
     let mut bytes = Vec::new();
@@ -24,17 +26,21 @@ pub fn run(input: impl Read, output: &mut impl Write) -> io::Result<()> {
     // Room for as many words as a file may hold, so that 12 cannot arise.
     let mut words = [0; MOST_REGION_WORDS];
     match file::read(plate, &[], file, &mut words) {
-        Ok(table) => print_rows(&table, output),
+        Ok(table) => print_rows(&table, MOST_ROWS, output),
         Err(refusal) => writeln!(output, "{refusal}"),
     }
 }
 
-/// A table that was read passes the checks of the listing, so none is asked again here.
-fn print_rows(table: &Table, output: &mut impl Write) -> io::Result<()> {
+/// At most so many rows, then `end` and the total, or `more` if another row follows. A table that
+/// was read passes the checks of the listing, so none is asked again here.
+pub fn print_rows(table: &Table, most: u64, output: &mut impl Write) -> io::Result<()> {
     writeln!(output, "tasks {}", table.n)?;
     let mut walk = Walk::from_start(table);
-    let mut rows = 0u64;
+    let mut rows = 0;
     while let Some(row) = walk.next_passing() {
+        if rows == most {
+            return writeln!(output, "more");
+        }
         print_row(row.numbers(), output)?;
         rows += 1;
     }

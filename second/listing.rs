@@ -119,7 +119,7 @@ impl Walk {
     }
 
     /// A walk that tries the row after this one first.
-    fn after(table: &Table, row: Row) -> Walk {
+    pub fn after(table: &Table, row: Row) -> Walk {
         let mut walk = Walk {
             tasks: Tasks::of(table),
             row,
@@ -132,13 +132,28 @@ impl Walk {
     /// The next passing row, or nothing at the end.
     pub fn next_passing(&mut self) -> Option<Row> {
         while !self.ended {
-            let row = self.row;
-            self.ended = !self.row.step();
-            if self.row_passes(&row) {
+            if let Some(row) = self.try_next() {
                 return Some(row);
             }
         }
         None
+    }
+
+    /// The next row, if it passes. Asked only before the end.
+    fn try_next(&mut self) -> Option<Row> {
+        let row = self.row;
+        self.ended = !self.row.step();
+        self.row_passes(&row).then_some(row)
+    }
+
+    /// Whether a passing row, or the end, is met when so many rows are tried.
+    pub fn is_near(mut self, rows: u64) -> bool {
+        for _ in 0..rows {
+            if self.ended || self.try_next().is_some() {
+                return true;
+            }
+        }
+        self.ended
     }
 
     fn row_passes(&mut self, row: &Row) -> bool {

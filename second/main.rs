@@ -1,10 +1,11 @@
-//! The second program: everything that document 01 asks for, written a second time, from that
-//! document alone. It proves nothing. It is plain on purpose, so that it can be laid beside the
-//! paper clause by clause, and its answers are compared with those of the core.
+//! The second program: everything that document 01 asks for, and what has landed of document 02,
+//! written a second time, from the documents alone. It proves nothing. It is plain on purpose, so
+//! that it can be laid beside the papers clause by clause, and its answers are compared with those
+//! of the core.
 //!
 //! Subcommands, all from standard input to standard output:
 //! - `ask`: answers a stream of requests, one line each (see ask.rs);
-//! - `list`: five plate bytes, then a file; prints every passing row (see list.rs);
+//! - `list`: five plate bytes, then a file; prints the passing rows (see list.rs);
 //! - `make`: a description of a cabinet; writes the cabinet's file (see make.rs);
 //! - `plate`: the same description; writes the five plate bytes;
 //! - `catalogue`: the same description; prints the catalogue it names, one number a line;

@@ -1,6 +1,6 @@
 //! What a stream of requests reached, call by call. A comparison of two programs speaks only for
 //! what was asked of them: this counts, for each call, each refusal number and each answer that it
-//! can give, the limits of document 01 with one past them, and pairs of faults that make the
+//! can give, the limits of the documents with one past them, and pairs of faults that make the
 //! order of the numbers show. What came too seldom is said by name. It knows no answer better
 //! than the two programs: it only reads requests and the answers they agreed on.
 

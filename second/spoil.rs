@@ -6,14 +6,14 @@ use crate::random::Random;
 use crate::seal::seal;
 use crate::table::*;
 
-/// Numbers at a limit of document 01, and one past it.
+/// Numbers at a limit of the documents, and one past it.
 const EDGES: [u32; 20] = [
     0,
     1,
     2,
-    7,
     8,
     9,
+    14,
     15,
     16,
     63,
@@ -60,8 +60,15 @@ pub fn wrong_counts(random: &mut Random, cabinet: &mut Cabinet, words_lent: bool
         let m = random.one_of(&[101, 101, 102, 127, 128, 255, 256]);
         cabinet.own.resize(m, 1);
     } else {
-        cabinet.table.n = random.one_of(&[0, 9, 255]);
+        cabinet.table.n = wrong_n(random);
     }
+}
+
+/// None, one past the most, or any above it: all but the low four bits may be what is wrong.
+pub fn wrong_n(random: &mut Random) -> u8 {
+    let past = MOST_TASKS as u32 + 1;
+    let any = random.from(past, 255);
+    random.one_of(&[0, past, 255, any]) as u8
 }
 
 pub fn wrong_number(random: &mut Random, record: &mut Record) {
@@ -306,9 +313,9 @@ fn damage(random: &mut Random, cabinet: &Cabinet, file: &mut Vec<u8>) {
     let m = cabinet.own.len();
     let k = random.place(n);
     let words = in_record(n, 0);
-    let (at, width, value) = match random.from(0, 18) {
+    let (at, width, value) = match random.from(0, 19) {
         0 => (0, 4, random.one_of(&[0, 2, 3, 15])),
-        1 => return wrong_head_count(random, file),
+        1 | 19 => return wrong_head_count(random, file),
         2 => return other_length(random, file),
         3 => (4, 4, 1 << random.from(0, 3)),
         4 => (in_record(k, 90), 6, 1 << random.from(0, 5)),
@@ -344,7 +351,7 @@ fn wrong_head_count(random: &mut Random, file: &mut Vec<u8>) {
         return;
     }
     if random.once_in(2) {
-        file[6] = random.one_of(&[0, 9, 255]);
+        file[6] = wrong_n(random);
     } else {
         file[7] = random.one_of(&[101, 101, 102, 255]);
     }

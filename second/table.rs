@@ -1,6 +1,7 @@
-//! The table of one cabinet, and the ranges of document 01, "Numbers a table may hold".
+//! The table of one cabinet, and the ranges of document 01, "Numbers a table may hold", with n up
+//! to 15 by document 02, item 6.
 
-pub const MOST_TASKS: usize = 8;
+pub const MOST_TASKS: usize = 15;
 pub const MOST_REGION_WORDS: usize = 100;
 /// The largest cost, period, deadline and region word; the smallest is 1.
 pub const MOST_TICKS: u32 = 1_000_000;

@@ -3,6 +3,7 @@
 mod asking;
 mod bench;
 mod brute;
+mod cases;
 mod files;
 mod list;
 mod making;

@@ -1,6 +1,10 @@
 //! What response times, tolerances, lengths and the region check reach.
 
 use super::*;
+use std::ops::RangeInclusive;
+
+/// How often a thing is wanted that comes beside one aimed at.
+const HALF_AS_OFTEN: u64 = AIMED_AT / 2;
 
 pub fn of_times(tally: &mut Tally, mut body: Body, answer: &Answer) -> Option<()> {
     let table = body.table()?;
@@ -22,6 +26,10 @@ pub fn of_times(tally: &mut Tally, mut body: Body, answer: &Answer) -> Option<()
     tally.note("beyond", times.contains(&None));
     let both = times.contains(&None) && any(&|_, _| true);
     tally.note("beyond beside a time", both);
+    let none_beyond = answer.taken() && !times.contains(&None);
+    let many = table.n >= 9;
+    tally.note("a time of each at n 9 to 15", none_beyond && many);
+    tally.note("beyond beside a time at n 9 to 15", both && many);
     tally.note(
         "in time at the last tick",
         any(&|i, r| r == tasks.deadline[i]),
@@ -30,6 +38,7 @@ pub fn of_times(tally: &mut Tally, mut body: Body, answer: &Answer) -> Option<()
     tally.note("a time of the whole horizon", any(&|_, r| r == 1_000_000));
     let later_job = any(&|i, r| first_finish(&tasks, i).is_some_and(|f| f < r));
     tally.note("a later job is the worst", later_job);
+    tally.note("a later job is the worst at n 9 to 15", later_job && many);
     tally.note("blocked", any(&|i, _| analysis::blocking(&tasks, i) > 0));
     tally.note(
         "not blocked",
@@ -114,8 +123,9 @@ pub fn of_lengths(tally: &mut Tally, mut body: Body, answer: &Answer) -> Option<
     table_faults(&table, None).note_meetings(tally, 5, answer);
     note_table(tally, &table, answer);
     note_counts(tally, table.n, None, answer);
-    let large = answer.taken() && table.n >= 6;
-    tally.note_often(AIMED_AT, "answered at n 6 to 8", large);
+    let answered = |sizes: RangeInclusive<u8>| answer.taken() && sizes.contains(&table.n);
+    tally.note_often(HALF_AS_OFTEN, "answered at n 6 to 8", answered(6..=8));
+    tally.note_often(AIMED_AT, "answered at n 9 to 15", answered(9..=15));
     let ticks = ticks_of(answer);
     let costs = held(&table);
     let cost = |k: usize| costs.records[k].cost as i64;
@@ -158,10 +168,14 @@ pub fn of_region_check(tally: &mut Tally, mut body: Body, answer: &Answer) -> Op
     note_lists(tally, &table, &own, &catalogue, answer);
     note_places(tally, &table, (&own, &catalogue), answer);
     note_below_zero(tally, &table, answer);
-    let large = answer.taken() && table.n >= 6;
-    tally.note_often(AIMED_AT, "answered at n 6 to 8", large);
-    tally.note("fits at n 6 to 8", large && answer.line == "fits");
-    tally.note("unfit at n 6 to 8", large && answer.line == "unfit");
+    for (wanted, sizes) in [(HALF_AS_OFTEN, 6..=8), (AIMED_AT, 9..=15)] {
+        let named = format!("at n {} to {}", sizes.start(), sizes.end());
+        let large = answer.taken() && sizes.contains(&table.n);
+        tally.note_often(wanted, &format!("answered {named}"), large);
+        for said in ["fits", "unfit"] {
+            tally.note(&format!("{said} {named}"), large && answer.line == said);
+        }
+    }
     let left = least_left(&table, &own, &catalogue, answer);
     tally.note("a region of just its length", left == Some(0));
     tally.note("a region one too long", left == Some(-1));

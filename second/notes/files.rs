@@ -96,7 +96,8 @@ fn note_head(tally: &mut Tally, plate: Plate, file: &[u8], answer: &Answer) {
     tally.note("the largest line", answer.taken() && plate.line == u16::MAX);
     let wide = answer.refused(3) && plate.cabinet > MOST_CABINET;
     tally.note("a plate above 24 bits turned away", wide);
-    for length in [22, 356] {
+    let longest = file::length(MOST_TASKS, MOST_REGION_WORDS);
+    for length in [file::SHORTEST, longest] {
         let came = answer.taken() && file.len() == length;
         tally.note(&format!("a file of {length} bytes"), came);
     }

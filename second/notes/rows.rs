@@ -15,8 +15,9 @@ pub fn of_first_row(tally: &mut Tally, mut body: Body, answer: &Answer) -> Optio
     let first = order.is_sorted() && thresholds.iter().all(|threshold| *threshold == 1);
     tally.note("the first row of all", !row.is_empty() && first);
     tally.note("rows passed over", !row.is_empty() && !first);
-    let many = n >= 5 && !row.is_empty() && !first;
-    tally.note("rows passed over at n 5 to 8", many);
+    let over = !row.is_empty() && !first;
+    tally.note("rows passed over at n 5 to 8", over && (5..=8).contains(&n));
+    tally.note("rows passed over at n 9 to 15", over && n >= 9);
     for size in 1..=MOST_TASKS {
         tally.note(&format!("row at n {size}"), row.len() == 2 * size);
     }
@@ -43,10 +44,13 @@ pub fn of_next_row(tally: &mut Tally, mut body: Body, answer: &Answer) -> Option
     let over = !row.is_empty() && before != given;
     tally.note("the row just behind", !row.is_empty() && before == given);
     tally.note("rows passed over", over);
-    tally.note("rows passed over at n 5 to 8", over && n >= 5);
+    let some = (5..=8).contains(&n);
+    tally.note("rows passed over at n 5 to 8", over && some);
+    tally.note("rows passed over at n 9 to 15", over && n >= 9);
     let other_order = !row.is_empty() && row[..n] != given[..n];
     tally.note("a row in another order", other_order);
-    tally.note("a row in another order at n 5 to 8", other_order && n >= 5);
+    tally.note("a row in another order at n 5 to 8", other_order && some);
+    tally.note("a row in another order at n 9 to 15", other_order && n >= 9);
     // A single task has a single row, and none behind it.
     for size in 2..=MOST_TASKS {
         tally.note(&format!("row at n {size}"), row.len() == 2 * size);

@@ -69,7 +69,7 @@ pub fn note_counts(tally: &mut Tally, n: u8, m: Option<usize>, answer: &Answer) 
     for size in 1..=MOST_TASKS as u8 {
         tally.note(&format!("n {size}"), answer.taken() && n == size);
     }
-    for size in [0, 9, 255] {
+    for size in [0, MOST_TASKS as u8 + 1, 255] {
         let came = answer.refused(5) && n == size;
         tally.note(&format!("n {size} turned away"), came);
     }
@@ -182,7 +182,8 @@ pub fn note_record_number(tally: &mut Tally, number: u16, n: u8, answer: &Answer
     let n = n as u16;
     tally.note("record 1", answer.taken() && number == 1);
     tally.note("record n", answer.taken() && number == n);
-    tally.note("record 8", answer.taken() && number == 8);
+    let last = number as usize == MOST_TASKS;
+    tally.note(&format!("record {MOST_TASKS}"), answer.taken() && last);
     for (what, out) in [
         ("record 0", number == 0),
         ("record n + 1", number == n + 1),

@@ -91,7 +91,7 @@ fn response(tasks: &[Task], i: Task) -> Option<i64> {
     differences?.into_iter().max()
 }
 
-fn responses(table: &Table) -> Vec<Option<i64>> {
+pub fn responses(table: &Table) -> Vec<Option<i64>> {
     let tasks = tasks_of(table);
     tasks.iter().map(|i| response(&tasks, *i)).collect()
 }
@@ -104,10 +104,19 @@ fn tolerance(tasks: &[Task], i: Task) -> i64 {
     (1..=i.d).map(at).max().expect("a deadline is at least 1")
 }
 
+pub fn all_tolerances(table: &Table) -> Vec<i64> {
+    let tasks = tasks_of(table);
+    tasks.iter().map(|i| tolerance(&tasks, *i)).collect()
+}
+
 /// A small table that asks for 60 to 105 hundredths of the processor, more or less, so that long
 /// active periods are common and some tasks are beyond.
 fn small_table(dice: &mut Dice, n: u32) -> Table {
     let hundredths = dice.from_to(60, 105);
+    table_of_load(dice, n, hundredths)
+}
+
+fn table_of_load(dice: &mut Dice, n: u32, hundredths: u32) -> Table {
     let mut tasks = Vec::new();
     for _ in 0..n {
         let cost = dice.from_to(1, 9);
@@ -138,6 +147,23 @@ fn response_times_value_by_value() {
     );
 }
 
+/// Of many tasks a full load would take too long to try out, so few of these have one.
+#[test]
+fn response_times_of_many_value_by_value() {
+    let mut dice = Dice::new(7);
+    for k in 0..60 {
+        let n = 6 + k % 10;
+        let hundredths = if k % 15 == 9 {
+            105
+        } else {
+            dice.from_to(40, 85)
+        };
+        let table = table_of_load(&mut dice, n, hundredths);
+        let times = responses(&table);
+        assert_eq!(response_times(&table), Ok(times), "{table:?}");
+    }
+}
+
 /// How many tasks have a response time that their first job does not show.
 fn count_later_job_worse(tasks: &[Task], times: &[Option<i64>]) -> usize {
     let first_job = |i: Task| {
@@ -156,7 +182,7 @@ fn passing_is_all_times_within_deadlines() {
     let mut dice = Dice::new(2);
     let mut passing = 0;
     for _ in 0..2000 {
-        let n = dice.from_to(1, 8);
+        let n = dice.from_to(1, MOST_TASKS as u32);
         let table = small_table(&mut dice, n);
         let times = response_times(&table).expect("refused");
         let in_time = table
@@ -178,13 +204,12 @@ fn tolerances_value_by_value() {
     let mut dice = Dice::new(3);
     let mut below_zero = 0;
     for _ in 0..400 {
-        let n = dice.from_to(1, 8);
+        let n = dice.from_to(1, MOST_TASKS as u32);
         let mut table = small_table(&mut dice, n);
         for record in &mut table.records {
             record.deadline = record.deadline.min(record.period);
         }
-        let tasks = tasks_of(&table);
-        let all: Vec<i64> = tasks.iter().map(|i| tolerance(&tasks, *i)).collect();
+        let all = all_tolerances(&table);
         below_zero += all.iter().filter(|tolerance| **tolerance < 0).count();
         assert_eq!(tolerances(&table), Ok(all), "{table:?}");
     }

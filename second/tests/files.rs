@@ -17,8 +17,8 @@ fn two_jobs() -> (Table, Vec<u32>) {
     (table, own)
 }
 
-fn eight_tasks() -> Table {
-    let mut table = unassigned(&[(1, 10, 10); 8]);
+fn fifteen_tasks() -> Table {
+    let mut table = unassigned(&[(1, 10, 10); 15]);
     for record in &mut table.records {
         record.count = 1;
     }
@@ -28,7 +28,7 @@ fn eight_tasks() -> Table {
 #[test]
 fn shortest_and_longest() {
     assert_eq!(length(1, 0), 22);
-    assert_eq!(length(8, 100), 356);
+    assert_eq!(length(15, 100), 440);
 }
 
 /// Worked out by hand: edition 1, spare 0, cabinet 0x011171, line 12, n 2, m 2; then
@@ -61,16 +61,16 @@ fn reading_writes_the_words_and_no_more() {
 }
 
 #[test]
-fn eight_tasks_are_read_and_nine_are_not() {
-    let table = eight_tasks();
+fn fifteen_tasks_are_read_and_sixteen_are_not() {
+    let table = fifteen_tasks();
     let file = file_of(&table, &[1], &[]);
     assert_eq!(read(PLATE, &[], &file, &mut [0]), Ok(table));
-    let mut nine = file[..file.len() - 5].to_vec();
-    nine[6] = 9;
-    nine.extend_from_within(8..20);
-    nine.extend([0, 0, 0x10, 0, 0]);
-    assert_eq!(nine.len(), length(9, 1));
-    assert_eq!(read(PLATE, &[], &resealed(nine), &mut [0]), refused(5));
+    let mut sixteen = file[..file.len() - 5].to_vec();
+    sixteen[6] = 16;
+    sixteen.extend_from_within(8..20);
+    sixteen.extend([0, 0, 0x10, 0, 0]);
+    assert_eq!(sixteen.len(), length(16, 1));
+    assert_eq!(read(PLATE, &[], &resealed(sixteen), &mut [0]), refused(5));
 }
 
 #[test]
@@ -107,7 +107,7 @@ fn any_single_flipped_bit_is_refused() {
 /// A table as the writer takes it, its own region words and a catalogue.
 fn random_cabinet(dice: &mut Dice) -> (Table, Vec<u32>, Vec<u32>) {
     let mut table = Table {
-        n: dice.from_to(1, 8) as u8,
+        n: dice.from_to(1, MOST_TASKS as u32) as u8,
         ..Table::default()
     };
     let mut own: Vec<u32> = (0..dice.from_to(1, 100))

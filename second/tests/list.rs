@@ -77,3 +77,63 @@ fn every_row_once_and_in_order() {
     assert!(lines[1..37].windows(2).all(|pair| pair[0] < pair[1]));
     assert_eq!((lines[1], lines[36]), ("1 2 3 1 1 1", "3 2 1 3 2 1"));
 }
+
+/// What is printed of these tasks where at most so many rows are.
+fn printed(tasks: &[(u32, u32, u32)], most: u64) -> String {
+    let mut output = Vec::new();
+    crate::list::print_rows(&unassigned(tasks), most, &mut output).expect("a list");
+    String::from_utf8(output).expect("text")
+}
+
+/// The example of document 01 has four rows: a total while no more than the most of them pass.
+#[test]
+fn more_rows_than_are_printed() {
+    let paper = [(2, 5, 6), (4, 10, 10)];
+    let rows = ["tasks 2", "1 2 1 1", "1 2 1 2", "2 1 1 1", "2 1 2 1"];
+    for (most, last) in [
+        (0, "more"),
+        (1, "more"),
+        (3, "more"),
+        (4, "end 4"),
+        (5, "end 4"),
+        (1_000_000, "end 4"),
+    ] {
+        let shown = rows.len().min(1 + most as usize);
+        let text = format!("{}\n{last}\n", rows[..shown].join("\n"));
+        assert_eq!(printed(&paper, most), text, "{most}");
+    }
+}
+
+/// A row that fails is no row that follows.
+#[test]
+fn rows_that_fail_behind_the_last() {
+    let only = [(2, 5, 5), (4, 10, 10)];
+    assert_eq!(printed(&only, 1), "tasks 2\n1 2 1 2\nend 1\n");
+    assert_eq!(printed(&only, 0), "tasks 2\nmore\n");
+    assert_eq!(printed(&[(2, 5, 1), (4, 10, 10)], 0), "tasks 2\nend 0\n");
+}
+
+/// Fifteen light tasks pass in every row: their first rows, and no walk over all of them.
+#[test]
+fn first_rows_of_fifteen() {
+    let text = printed(&[(1, 100, 100); 15], 3);
+    let order = "1 2 3 4 5 6 7 8 9 10 11 12 13 14 15";
+    let ones = "1 ".repeat(14);
+    let rows: String = (1..=3).map(|k| format!("{order} {ones}{k}\n")).collect();
+    assert_eq!(text, format!("tasks 15\n{rows}more\n"));
+}
+
+/// Six light tasks have 720 · 720 rows, seven 5,040 · 5,040: only these are more than a million.
+#[test]
+fn a_million_rows() {
+    let listing = |n: usize| {
+        let mut table = unassigned(&vec![(1, 100, 100); n]);
+        let own = whole_regions(&mut table);
+        listed(&PLATE_BYTES, &file_of(&table, &own, &[]))
+    };
+    let six = listing(6);
+    assert!(six.starts_with("tasks 6\n") && six.ends_with("\nend 518400\n"));
+    let seven = listing(7);
+    assert!(seven.starts_with("tasks 7\n") && seven.ends_with("\nmore\n"));
+    assert_eq!(seven.lines().count(), 1_000_002);
+}

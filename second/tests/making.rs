@@ -79,6 +79,6 @@ fn wrong_descriptions() {
     let unassigned = "task cost 2 period 5 deadline 6 priority 0 threshold 0 own 0 1 name 3\n";
     let tasks = |n| format!("cabinet 1\nline 1\nregions 2\n{}", unassigned.repeat(n));
     assert!(made(&tasks(0)).is_none());
-    assert!(made(&tasks(8)).is_some());
-    assert!(made(&tasks(9)).is_none());
+    assert!(made(&tasks(15)).is_some());
+    assert!(made(&tasks(16)).is_none());
 }

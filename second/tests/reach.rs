@@ -2,6 +2,7 @@
 
 use super::*;
 use crate::draw::{any_row, last_row, step_back};
+use crate::listing::Walk;
 use crate::random::Random;
 use crate::{ask, generate, listing, reach, Stop};
 
@@ -83,6 +84,26 @@ fn an_unanswered_request_fails() {
     assert_eq!(said, "only 0 requests are answered");
 }
 
+/// The first file that a stream cuts is as long as any: all its cuts come, and one byte more.
+#[test]
+fn the_longest_file_is_cut() {
+    let mut cuts = Vec::new();
+    for request in requests(5, 1) {
+        let mut body = ask::Body(&request[3..]);
+        if request[0] == 1 && cuts.len() <= 441 {
+            body.plate().expect("a plate");
+            body.two().expect("room");
+            body.words().expect("a catalogue");
+            cuts.push((body.bytes().expect("a file").len(), answers(&request)));
+        }
+    }
+    for (at, (length, answer)) in cuts.iter().enumerate() {
+        assert_eq!(*length, at);
+        assert_eq!(answer.starts_with(b"table 15 "), at == 440, "{at}");
+    }
+    assert_eq!(cuts.len(), 442);
+}
+
 /// A step back is the row before: the listing of a table that every row passes goes forward.
 #[test]
 fn steps_back() {
@@ -102,6 +123,42 @@ fn steps_back() {
     }
     assert_eq!(rows, 36);
     assert_eq!(row, [1, 2, 3, 1, 1, 1]);
+}
+
+/// Of the searches that a stream asks for none is long, whatever the number of tasks.
+#[test]
+fn searches_are_short() {
+    let mut searches = [0; MOST_TASKS + 1];
+    for request in requests(6, 4_000) {
+        let kind = request[0];
+        if kind != 7 && kind != 8 || answers(&request).starts_with(b"refused") {
+            continue;
+        }
+        let mut body = ask::Body(&request[3..]);
+        body.two().expect("room");
+        let table = body.table().expect("a table");
+        let walk = match body.bytes() {
+            None => Walk::from_start(&table),
+            Some(row) => {
+                let row = listing::Row::from_numbers(table.n as usize, row);
+                Walk::after(&table, row.expect("a row"))
+            }
+        };
+        assert!(walk.is_near(generate::MOST_ROWS_TRIED), "{table:?}");
+        searches[table.n as usize] += 1;
+    }
+    assert!(searches[1..].iter().all(|count| *count > 0), "{searches:?}");
+}
+
+/// The walk comes to a row, or to the end, at just this many rows and at none fewer.
+#[test]
+fn how_near_a_row_is() {
+    for (deadline, rows) in [(6, 1), (5, 2), (1, 4)] {
+        let table = unassigned(&[(2, 5, deadline), (4, 10, 10)]);
+        for tried in 0..6 {
+            assert_eq!(Walk::from_start(&table).is_near(tried), tried >= rows);
+        }
+    }
 }
 
 #[test]

@@ -34,7 +34,7 @@ fn reading_head() {
     assert_eq!(reading(|file| file[3] ^= 1), refused(3));
     assert_eq!(reading(|file| file[5] ^= 1), refused(4));
     assert_eq!(reading(|file| file[6] = 0), refused(5));
-    assert_eq!(reading(|file| file[6] = 9), refused(5));
+    assert_eq!(reading(|file| file[6] = 16), refused(5));
     assert_eq!(reading(|file| file[7] = 101), refused(5));
     assert_eq!(reading(|file| file[6] = 3), refused(6));
     assert_eq!(reading(|file| file[7] = 100), refused(6));
@@ -110,7 +110,7 @@ fn writing() {
     };
     assert_eq!(with(&|_| {}), Ok(39));
     assert_eq!(with(&|table| table.n = 0), refused(5));
-    assert_eq!(with(&|table| table.n = 9), refused(5));
+    assert_eq!(with(&|table| table.n = 16), refused(5));
     assert_eq!(with(&|table| table.records[0].cost = 0), refused(9));
     assert_eq!(
         with(&|table| table.records[0].period = 1_000_001),
@@ -211,11 +211,12 @@ fn analysis_calls() {
             number(tolerances(&table).err()),
             number(lengths(&table).err()),
             number(regions_fit(&table, &own, &[]).err()),
-            number(first_row(&table, &mut [0; 16]).err()),
+            number(first_row(&table, &mut [0; 2 * MOST_TASKS]).err()),
         ]
     };
     assert_eq!(all(&|_| {}), [0; 5]);
     assert_eq!(all(&|table| table.n = 0), [5; 5]);
+    assert_eq!(all(&|table| table.n = 16), [5; 5]);
     assert_eq!(all(&|table| table.n = 255), [5; 5]);
     assert_eq!(all(&|table| table.records[1].name = 128), [9; 5]);
     assert_eq!(

@@ -1,10 +1,11 @@
 //! The samples: each is what its description makes, and is what its description says.
 
+use super::brute::{all_tolerances, responses};
 use super::*;
 use crate::analysis::{passes, response_times, Tasks};
 use crate::checks::Refusal;
 use crate::file::read;
-use crate::lengths::{lengths, regions_fit};
+use crate::lengths::{lengths, regions_fit, tolerances};
 use crate::{make, parts};
 
 struct Sample {
@@ -31,6 +32,8 @@ const LIGHT_SIX: Sample = sample!("light-six");
 const TIGHT_SIX: Sample = sample!("tight-six");
 const PRESS_EIGHT: Sample = sample!("press-eight");
 const PRESS_EIGHT_CATALOGUE: &str = include_str!("../../samples/press-eight.catalogue");
+const PACKER_FIFTEEN: Sample = sample!("packer-fifteen");
+const PACKER_FIFTEEN_CATALOGUE: &str = include_str!("../../samples/packer-fifteen.catalogue");
 const CABINET_NAMES: &[u8] = include_bytes!("../../samples/cabinet.names");
 const HOUSE_NAMES: &[u8] = include_bytes!("../../samples/house.names");
 
@@ -55,11 +58,9 @@ fn cabinet(sample: &Sample, catalogue: &[u32]) -> Result<(Table, Vec<u32>), Refu
     Ok((table, words[..sample.file[7] as usize].to_vec()))
 }
 
-fn press_eight_catalogue() -> Vec<u32> {
-    PRESS_EIGHT_CATALOGUE
-        .lines()
-        .map(|line| line.parse().expect("a number"))
-        .collect()
+fn words_of(catalogue: &str) -> Vec<u32> {
+    let word = |line: &str| line.parse().expect("a number");
+    catalogue.lines().map(word).collect()
 }
 
 #[test]
@@ -72,6 +73,7 @@ fn made_from_their_descriptions() {
         LIGHT_SIX,
         TIGHT_SIX,
         PRESS_EIGHT,
+        PACKER_FIFTEEN,
     ] {
         assert_eq!(
             make::file(sample.description).ok().as_deref(),
@@ -85,8 +87,13 @@ fn made_from_their_descriptions() {
             Some(sample.plate)
         );
     }
-    let catalogue = make::catalogue(PRESS_EIGHT.description).ok();
-    assert_eq!(catalogue.as_deref(), Some(PRESS_EIGHT_CATALOGUE));
+    for (sample, catalogue) in [
+        (PRESS_EIGHT, PRESS_EIGHT_CATALOGUE),
+        (PACKER_FIFTEEN, PACKER_FIFTEEN_CATALOGUE),
+    ] {
+        let made = make::catalogue(sample.description).ok();
+        assert_eq!(made.as_deref(), Some(catalogue));
+    }
 }
 
 #[test]
@@ -146,7 +153,7 @@ fn tight_six() {
 
 #[test]
 fn press_eight() {
-    let catalogue = press_eight_catalogue();
+    let catalogue = words_of(PRESS_EIGHT_CATALOGUE);
     let (table, own) = cabinet(&PRESS_EIGHT, &catalogue).expect("refused");
     let times = [2, 7, 15, 80, 35, 20, 113, 113].map(Some).to_vec();
     assert_eq!(response_times(&table), Ok(times));
@@ -157,8 +164,26 @@ fn press_eight() {
 }
 
 #[test]
+fn packer_fifteen() {
+    let catalogue = words_of(PACKER_FIFTEEN_CATALOGUE);
+    let (table, own) = cabinet(&PACKER_FIFTEEN, &catalogue).expect("refused");
+    let times = [2, 2, 6, 9, 14, 17, 33, 37, 58, 70, 78, 96, 197, 267, 280];
+    assert_eq!(response_times(&table), Ok(times.map(Some).to_vec()));
+    assert_eq!(responses(&table), times.map(|time| Some(time as i64)));
+    assert!(passes(&Tasks::of(&table)));
+    let ticks = [5, 6, 10, 13, 13, 18, 15, 22, 6, 15, 25, 10, 33, 38, 41];
+    assert_eq!(tolerances(&table), Ok(ticks.to_vec()));
+    assert_eq!(all_tolerances(&table), ticks);
+    let longest = [1, 1, 2, 2, 3, 3, 3, 5, 4, 3, 4, 5, 5, 5, 5];
+    assert_eq!(lengths(&table), Ok(longest.to_vec()));
+    assert_eq!(regions_fit(&table, &own, &catalogue), Ok(true));
+    assert_eq!(listed(&PACKER_FIFTEEN), "refused 11\n");
+}
+
+#[test]
 fn names_of_the_jobs() {
-    let (table, _) = cabinet(&PRESS_EIGHT, &press_eight_catalogue()).expect("refused");
+    let catalogue = words_of(PRESS_EIGHT_CATALOGUE);
+    let (table, _) = cabinet(&PRESS_EIGHT, &catalogue).expect("refused");
     let name = |task: &Record| {
         let part = parts::name(task.name, CABINET_NAMES, HOUSE_NAMES).expect("refused");
         String::from_utf8(part.to_vec()).expect("text")

@@ -73,13 +73,20 @@ pub extern "C" fn bench_times(table: &[u8]) -> u64 {
     sum_of(times)
 }
 
-// The last record's.
+// The last task's; 0 where there is no task, or too many.
 #[no_mangle]
 pub extern "C" fn bench_tolerances(table: &[u8]) -> i64 {
     let t = request::table_at(table, 0);
+    let n = t.n;
     let answer = lengths::tolerances(t);
     let ticks = answer.ticks;
-    ticks[MOST_TASKS - 1]
+    if n < 1 {
+        return 0;
+    }
+    if n > MOST_TASKS {
+        return 0;
+    }
+    ticks[n - 1]
 }
 
 #[no_mangle]

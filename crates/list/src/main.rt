@@ -1,8 +1,8 @@
-// Lists every passing assignment of a cabinet file. From standard input: five plate bytes (cabinet 24, line 16), then the
-// file. Document 01 gives this program an empty catalogue, so a file with regions of a catalogue is refused with 11.
+// Lists the passing assignments of a cabinet file, at most a million. From standard input: five plate bytes (cabinet 24, line
+// 16), then the file. Document 01 gives this program an empty catalogue, so a file with regions of a catalogue is refused with 11.
 //
-// Where standard input can't be read or standard output can't be written, it says so on standard error and stops: a list that
-// lost rows has no last line with a total.
+// The list ends in `end` and the number of its rows, or in `more` where rows follow that aren't printed. Where standard input
+// can't be read or standard output can't be written, it says so on standard error and stops: a list that lost rows has neither.
 ghost use Prim.Native.Nat.{_≤_};
 ghost use lib.ListN.{length};
 use paper::MOST_TASKS;
@@ -18,8 +18,8 @@ use say::Form;
 // As many numbers as the longest row has.
 const ROW: usize = 2 * MOST_TASKS;
 
-// A number that no run uses up: a row takes longer than a nanosecond.
-const MOST_ROWS: u64 = 18446744073709551615;
+// The most rows that are printed (document 02, item 6).
+const MOST_ROWS: u64 = 1_000_000;
 
 fn is_row(answer: RowAnswer) -> bool {
     match answer {
@@ -60,14 +60,19 @@ fn put_count(buf: &mut [u8], at: usize, word: &[u8], number: u64) -> usize
     say::newline(buf, counted)
 }
 
-fn put_end(buf: &mut [u8], at: usize, rows: u64) -> usize
+// The last line. `follows`: a row was found behind the last that was printed.
+fn put_last(buf: &mut [u8], at: usize, rows: u64, follows: bool) -> usize
     requires { ⌜ at ≤ length (now buf) ⌝ }
     ensures { λ r. ⌜ r ≤ length (now (buf .entry)) ⌝ }
 {
+    if follows {
+        let more = say::word(buf, at, b"more");
+        return say::newline(buf, more);
+    }
     put_count(buf, at, b"end", rows)
 }
 
-// Every row, and how many there are. `row` has room for the numbers of one, and no more.
+// Every row, up to the most that are printed, and the last line. `row` has room for the numbers of one, and no more.
 fn put_rows(buf: &mut [u8], at: usize, t: Table, row: &mut [u8]) -> usize
     requires { ⌜ at ≤ length (now buf) ⌝ }
     ensures { λ r. ⌜ r ≤ length (now (buf .entry)) ⌝ }
@@ -78,10 +83,11 @@ fn put_rows(buf: &mut [u8], at: usize, t: Table, row: &mut [u8]) -> usize
     while rows < MOST_ROWS && found {
         end = put_row(buf, end, row);
         rows += 1;
-        // No search for a row that could not be shown any more.
+        // Nothing is searched for once a write has failed.
         found = !text::lost(buf, end) && step(t, row);
     }
-    put_end(buf, end, rows)
+    // After the last row that may be printed, too, one more was searched for: a list that ends just there is whole.
+    put_last(buf, end, rows, found)
 }
 
 fn put_table(buf: &mut [u8], t: Table) -> usize

@@ -16,4 +16,5 @@ pub mod Extremes
 pub mod Writing
 pub mod Costs
 pub mod Sizes
+pub mod Counts
 pub mod Places

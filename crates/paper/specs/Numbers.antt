@@ -8,9 +8,9 @@ use Rattle.paper.specs.Vocabulary.{every, listTo}
 use Rattle.paper.specs.declared.Source.the-variants.{Own}
 use Rattle.paper.specs.declared.Record.{Record}
 
--- tasks n: 1 to 8
+-- tasks n: 1 to 15 (document 02, item 6)
 abbrev pub mostTasks : ℕ
-mostTasks = 8
+mostTasks = 15
 
 -- cost C, period T, deadline D, region word: 1 to 1,000,000
 abbrev pub mostTicks : ℕ

@@ -26,7 +26,7 @@ pub struct Record {
 }
 
 // The most tasks and region words that a table may have.
-pub const MOST_TASKS: usize = 8;
+pub const MOST_TASKS: usize = 15;
 
 pub const MOST_WORDS: usize = 100;
 

@@ -1,5 +1,6 @@
--- `list::put_rows` stays inside both buffers, whose lengths no turn changes. The measure is what is left of the most rows.
-use Prim.Native.Nat.{_≤_, _<_, _-_, _^_}
+-- `list::put_rows` stays inside both buffers, whose lengths no turn changes. The measure is what is left of the most rows, so that
+-- no list has more than these.
+use Prim.Native.Nat.{_≤_, _-_}
 use mathlib.Core.Path.{_≡_}
 use borrow.Author.Needs.{needs}
 use lib.ListN.{length}
@@ -7,10 +8,10 @@ use Rattle.list.proofs.put_rows.Statement.{statement}
 use Rattle.list.proofs.put_rows.Tie as tie
 
 abbrev Inv-loop : tie.InvT-loop
-Inv-loop buf₀ at t row₀ end₀ rows₀ found₀ buf row end rows found = (length buf ≡ length buf₀) × (length row ≡ length row₀) × (end ≤ length buf₀) × (rows < 2 ^ 64)
+Inv-loop buf₀ at t row₀ end₀ rows₀ found₀ buf row end rows found = (length buf ≡ length buf₀) × (length row ≡ length row₀) × (end ≤ length buf₀) × (rows ≤ 1_000_000)
 
 abbrev μ-loop : tie.MeasureT-loop
-μ-loop buf₀ at t row₀ end₀ rows₀ found₀ buf row end rows found = 2 ^ 64 - rows
+μ-loop buf₀ at t row₀ end₀ rows₀ found₀ buf row end rows found = 1_000_000 - rows
 
 first-row-requires : tie.Need-first-row-requires Inv-loop μ-loop
 first-row-requires c κs = search needs
@@ -45,8 +46,8 @@ loop-less-2 c = search needs
 loop-again-2 : tie.Need-loop-again-2 Inv-loop μ-loop
 loop-again-2 c = search needs
 
-put-end-requires : tie.Need-put-end-requires Inv-loop μ-loop
-put-end-requires c κs = search needs
+put-last-requires : tie.Need-put-last-requires Inv-loop μ-loop
+put-last-requires c κs = search needs
 
 same-length : tie.Need-same-length Inv-loop μ-loop
 same-length c = search needs
@@ -74,7 +75,7 @@ put-rows-spec =
     loop-again
     loop-less-2
     loop-again-2
-    put-end-requires
+    put-last-requires
     same-length
     same-length-2
     returns)

@@ -1,0 +1,138 @@
+//! The stored stream of requests: what document 02, item 6, asks of it.
+
+use crate::ask::Body;
+use crate::cases;
+use crate::file::{length, read_checked};
+use crate::spoil::{in_record, put, seal_again};
+
+/// The requests of the stored stream, kind and body, each with the line that answers it. The
+/// last one is a bad request and has none.
+fn requests() -> Vec<(u8, Vec<u8>, String)> {
+    let stream = cases::stream();
+    let mut output = Vec::new();
+    crate::ask::run(&stream[..], &mut output).expect("answers");
+    let text = String::from_utf8(output).expect("text");
+    let mut rest = &stream[..];
+    let mut list = Vec::new();
+    for line in text.lines() {
+        let (head, more) = rest.split_at(3);
+        let length = u16::from_be_bytes([head[1], head[2]]) as usize;
+        list.push((head[0], more[..length].to_vec(), line.to_string()));
+        rest = &more[length..];
+    }
+    assert!(rest.is_empty());
+    assert_eq!(
+        list.pop().map(|last| last.2).as_deref(),
+        Some("bad request")
+    );
+    list
+}
+
+/// The n that a request names: its table's, or the one in its file's head.
+fn n_of(kind: u8, body: &[u8]) -> Option<u8> {
+    let mut body = Body(body);
+    match kind {
+        1 | 9 => {
+            body.plate()?;
+            body.two()?;
+            body.words()?;
+            body.bytes()?.get(6).copied()
+        }
+        2 => {
+            body.plate()?;
+            body.two()?;
+            Some(body.table()?.n)
+        }
+        3..=6 => Some(body.table()?.n),
+        7 | 8 | 10 => {
+            body.two()?;
+            Some(body.table()?.n)
+        }
+        _ => None,
+    }
+}
+
+/// Kinds that ask 5, and how an answer of theirs for fifteen tasks begins.
+const ASK_5: [(u8, &str); 10] = [
+    (1, "table 15 "),
+    (2, "file 440 "),
+    (3, "times "),
+    (4, "tolerances "),
+    (5, "lengths "),
+    (6, "fits"),
+    (7, "row out "),
+    (8, "row out "),
+    (9, "record "),
+    (10, "regions "),
+];
+
+#[test]
+fn fifteen_tasks_are_answered_and_none_and_sixteen_are_not() {
+    let requests = requests();
+    for (kind, begin) in ASK_5 {
+        let of = |n| {
+            let named = requests
+                .iter()
+                .filter(move |(k, body, _)| *k == kind && n_of(kind, body) == Some(n));
+            named.map(|(_, _, line)| line.as_str())
+        };
+        assert!(of(15).any(|line| line.starts_with(begin)), "{kind}");
+        for n in [0, 16] {
+            assert!(of(n).count() > 0, "kind {kind}, n {n}");
+            let refused = |line: &str| line == "refused 5" || line.starts_with("refused 5 out");
+            assert!(of(n).all(refused), "kind {kind}, n {n}");
+        }
+    }
+    let end = |(kind, body, line): &(u8, Vec<u8>, String)| {
+        *kind == 8 && n_of(8, body) == Some(15) && line.starts_with("end out 165")
+    };
+    assert!(requests.iter().any(end));
+}
+
+/// The files of sixteen records and of none have nothing wrong but that: with a record less, or
+/// with those that are missing, they read.
+#[test]
+fn the_number_of_records_alone_is_wrong() {
+    let record = |k: usize| in_record(k, 0) / 8;
+    let mut sixteen = cases::sixteen_jobs_file();
+    let mut none = cases::no_jobs_file();
+    assert_eq!([sixteen[6], none[6]], [16, 0]);
+    let records: Vec<u8> = sixteen.drain(record(0)..record(16)).collect();
+    assert_eq!(sixteen[8..sixteen.len() - 2], none[8..none.len() - 2]);
+    for file in [&mut sixteen, &mut none] {
+        assert_eq!(file.len(), length(0, file[7] as usize));
+        file.splice(8..8, records[..record(15) - 8].iter().copied());
+        put(file, 48, 8, 15);
+        seal_again(file);
+        assert_eq!(read_checked(cases::PLATE, &[], file).map(|_| ()), Ok(()));
+    }
+}
+
+/// Of those that are lent a table some have nothing wrong but n: with fifteen they are answered.
+#[test]
+fn n_alone_is_wrong() {
+    let requests = requests();
+    for kind in [2, 3, 4, 5, 6, 7, 8, 10] {
+        for n in [0, 16] {
+            let mended = requests.iter().any(|(k, body, _)| {
+                if *k != kind || n_of(kind, body) != Some(n) {
+                    return false;
+                }
+                let mut body = body.clone();
+                let place = match kind {
+                    2 => 8,
+                    7 | 8 | 10 => 2,
+                    _ => 0,
+                };
+                body[place] = 15;
+                let mut request = vec![kind];
+                request.extend((body.len() as u16).to_be_bytes());
+                request.extend(body);
+                let mut output = Vec::new();
+                crate::ask::run(&request[..], &mut output).expect("an answer");
+                !output.starts_with(b"refused")
+            });
+            assert!(mended, "kind {kind}, n {n}");
+        }
+    }
+}
