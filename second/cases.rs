@@ -4,7 +4,7 @@
 
 use crate::file;
 use crate::generate::*;
-use crate::spoil::{clear, in_record, put, seal_again};
+use crate::spoil::*;
 use crate::table::*;
 use std::fmt::Write as _;
 use std::io;
@@ -12,22 +12,23 @@ use std::io;
 /// One request of the stream, and a few words that say what it tries.
 struct Case {
     kind: u8,
-    what: &'static str,
+    what: String,
     body: Vec<u8>,
 }
 
-/// The calls by kind, with the numbers that document 01 says each of them asks.
+/// The calls by kind, with the numbers that each of them asks, in the order in which it asks them
+/// (document 01, "Numbers a turned-away call returns", and document 02, item 1).
 pub const CALLS: [(&str, &[u8]); 11] = [
-    ("read", &[1, 2, 3, 4, 5, 6, 7, 8, 9, 10, 11, 12]),
-    ("write", &[5, 9, 10, 11, 12]),
+    ("read", &[1, 2, 18, 3, 4, 5, 6, 7, 8, 9, 10, 11, 12]),
+    ("write", &[5, 18, 9, 10, 11, 12]),
     ("response times", &[5, 9, 10, 14]),
     ("tolerances", &[5, 9, 10, 14, 15]),
     ("lengths", &[5, 9, 10, 14, 15, 16]),
     ("region check", &[5, 9, 10, 11, 14, 15, 16]),
     ("first row", &[5, 9, 12]),
     ("next row", &[5, 9, 12, 17]),
-    ("record", &[1, 2, 3, 4, 5, 6, 7, 8, 9, 10, 11, 13]),
-    ("regions", &[5, 11, 13]),
+    ("record", &[1, 2, 18, 3, 4, 5, 6, 7, 8, 9, 10, 11, 13]),
+    ("regions", &[5, 13, 11]),
     ("name", &[9, 13]),
 ];
 
@@ -191,8 +192,12 @@ fn lent(table: &Table, k: usize, first: u32) -> Table {
 }
 
 fn file_of(table: &Table, own: &[u32], catalogue: &[u32]) -> Vec<u8> {
+    file_on(PLATE, table, own, catalogue)
+}
+
+fn file_on(plate: Plate, table: &Table, own: &[u32], catalogue: &[u32]) -> Vec<u8> {
     let mut out = [0; 512];
-    let length = file::write(PLATE, table, own, catalogue, &mut out).expect("a file");
+    let length = file::write(plate, table, own, catalogue, &mut out).expect("a file");
     out[..length].to_vec()
 }
 
@@ -207,6 +212,10 @@ fn field_changed(at: usize, width: usize, value: u32) -> Vec<u8> {
     put(&mut file, at, width, value);
     seal_again(&mut file);
     file
+}
+
+fn other_line_file() -> Vec<u8> {
+    field_changed(LINE_AT, 16, 13)
 }
 
 /// The fifteen jobs' file with one field changed, sealed anew.
@@ -245,16 +254,13 @@ pub fn no_jobs_file() -> Vec<u8> {
     with_records(0, |_| Vec::new())
 }
 
-/// Where n stands in the head.
-const N_AT: usize = 48;
-
 /// What a field of the two jobs' file is changed to, and where it starts and how wide it is, in
 /// the order of the numbers that turn the file away.
 const FIELDS: [(&str, usize, usize, u32); 30] = [
     ("edition 0", 0, 4, 0),
     ("edition 2", 0, 4, 2),
-    ("the file is another cabinet's", 8, 24, 70_003),
-    ("the file is another line's", 32, 16, 13),
+    ("the file is another cabinet's", CABINET_AT, 24, 70_003),
+    ("the file is another line's", LINE_AT, 16, 13),
     ("n is 0", N_AT, 8, 0),
     ("n is 16", N_AT, 8, 16),
     ("m is 101", 56, 8, 101),
@@ -299,10 +305,13 @@ const FIELDS_OF_FIFTEEN: [(&str, usize, usize, u32); 9] = [
 /// Where the region words of two jobs start.
 const WORDS: usize = in_record(2, 0);
 
+/// A file on a plate, and a few words that say what it tries.
+type FileCase = (String, Plate, Vec<u8>);
+
 /// Files that reading turns away, for the calls that read a file.
-fn turned_away_files() -> Vec<(&'static str, Plate, Vec<u8>)> {
+fn turned_away_files() -> Vec<FileCase> {
     let mut list = Vec::new();
-    let mut add = |what, file| list.push((what, PLATE, file));
+    let mut add = |what: &str, file| list.push((what.to_string(), PLATE, file));
     let file = two_jobs_file();
     add("no byte at all", vec![]);
     add("21 bytes", file[..21].to_vec());
@@ -315,8 +324,7 @@ fn turned_away_files() -> Vec<(&'static str, Plate, Vec<u8>)> {
     }
     let word = field_changed(WORDS + 40, 20, 1_000_001);
     add("a region word of 1,000,001", word);
-    let other_line = field_changed(32, 16, 13);
-    add("wrong line and wrong seal", flipped(&other_line, 40));
+    add("wrong line and wrong seal", flipped(&other_line_file(), 40));
     let mut spare_and_cost = field_changed(in_record(0, 0), 20, 0);
     put(&mut spare_and_cost, in_record(1, 90), 6, 1);
     seal_again(&mut spare_and_cost);
@@ -326,12 +334,77 @@ fn turned_away_files() -> Vec<(&'static str, Plate, Vec<u8>)> {
     }
     add("sixteen records and all else right", sixteen_jobs_file());
     add("no record and all else right", no_jobs_file());
-    let wide = Plate {
-        cabinet: PLATE.cabinet | 1 << 24,
-        ..PLATE
-    };
-    list.push(("a plate of more than 24 bits", wide, file));
+    for (what, cabinet) in [
+        ("a plate of more than 24 bits", PLATE.cabinet | 1 << 24),
+        ("a plate of 2^24", 1 << 24),
+    ] {
+        let plate = Plate { cabinet, ..PLATE };
+        list.push((what.to_string(), plate, file.clone()));
+    }
+    list.extend(blank_files());
     list
+}
+
+/// Nothing that reading asks of the file by itself, in these words.
+const fn beside(what: &'static str) -> Fault {
+    (0, what, |_| {})
+}
+
+/// Zeros in the place of cabinet or line: by themselves, and beside something else that is asked
+/// before 18 or after it.
+fn blank_files() -> Vec<FileCase> {
+    let mut list: Vec<FileCase> = Vec::new();
+    for blank in BLANKS {
+        list.push(blanked(blank, beside("")));
+    }
+    for blank in alone_and_all() {
+        for fault in BESIDE_ZEROS {
+            let case = blanked(blank, fault);
+            // A file of cabinet 0 is another cabinet's already.
+            if !list
+                .iter()
+                .any(|(_, plate, file)| (plate, file) == (&case.1, &case.2))
+            {
+                list.push(case);
+            }
+        }
+    }
+    list.push(blanked(BOTH_LINES, ANOTHER_CABINET));
+    list.push(blanked(BOTH_CABINETS, ANOTHER_LINE));
+    list.push(blanked(BLANK_PLATE, (1, "no byte at all", Vec::clear)));
+    let (what, mut plate, file) = blanked(BLANK_FILE, beside("a plate of 2^24"));
+    plate.cabinet = 1 << 24;
+    list.push((what, plate, file));
+    list
+}
+
+/// The plate and the file of the two jobs with these zeros, beside this.
+fn blanked((name, zeros): Blank, fault: Fault) -> FileCase {
+    let (mut plate, mut file) = (PLATE, two_jobs_file());
+    put_blank(zeros, fault, &mut plate, &mut file);
+    let (_, what, _) = fault;
+    let comma = if what.is_empty() { "" } else { ", " };
+    (format!("{name}{comma}{what}"), plate, file)
+}
+
+/// Plates of which all bytes but one or two are 0.
+const NEARLY_BLANK: [(&str, Plate); 3] = [
+    ("cabinet 1 and line 1", plate(1, 1)),
+    ("cabinet 256 and line 256", plate(256, 256)),
+    ("cabinet 65,536 and line 1", plate(65_536, 1)),
+];
+
+const fn plate(cabinet: u32, line: u16) -> Plate {
+    Plate { cabinet, line }
+}
+
+/// Files that read, for these plates.
+fn nearly_blank_files() -> Vec<FileCase> {
+    let (table, own) = two_jobs();
+    let file = |plate| file_on(plate, &table, &own, &[]);
+    NEARLY_BLANK
+        .map(|(what, plate)| (what.to_string(), plate, file(plate)))
+        .to_vec()
 }
 
 /// The file with a bit of this byte flipped.
@@ -344,53 +417,61 @@ fn flipped(file: &[u8], byte: usize) -> Vec<u8> {
 // ---- the calls
 
 impl Stream {
-    fn add(&mut self, kind: u8, what: &'static str, body: Vec<u8>) {
+    fn add(&mut self, kind: u8, what: &str, body: Vec<u8>) {
+        let what = what.to_string();
         self.0.push(Case { kind, what, body });
     }
 
-    fn read(&mut self, what: &'static str, room: u32, lent: &[u32], file: &[u8]) {
+    fn read(&mut self, what: &str, room: u32, lent: &[u32], file: &[u8]) {
         self.add(1, what, read_body(PLATE, room, lent, file));
     }
 
-    fn record(&mut self, what: &'static str, number: u32, lent: &[u32], file: &[u8]) {
+    /// What both calls that read a file are asked, with this room or this record's number.
+    fn files(&mut self, kind: u8, room_or_record: u32) {
+        for (what, plate, file) in turned_away_files().iter().chain(&nearly_blank_files()) {
+            self.add(kind, what, read_body(*plate, room_or_record, &[], file));
+        }
+    }
+
+    fn record(&mut self, what: &str, number: u32, lent: &[u32], file: &[u8]) {
         self.add(9, what, read_body(PLATE, number, lent, file));
     }
 
     /// Writes for the plate of the two jobs, with an empty catalogue.
-    fn write(&mut self, what: &'static str, room: u32, table: &Table, own: &[u32]) {
+    fn write(&mut self, what: &str, room: u32, table: &Table, own: &[u32]) {
         self.add(2, what, write_body(PLATE, room, table, own, &[]));
     }
 
     /// Response times, tolerances or lengths.
-    fn analysis(&mut self, kind: u8, what: &'static str, table: &Table) {
+    fn analysis(&mut self, kind: u8, what: &str, table: &Table) {
         self.add(kind, what, table_body(table));
     }
 
-    fn check(&mut self, what: &'static str, table: &Table, own: &[u32], lent: &[u32]) {
+    fn check(&mut self, what: &str, table: &Table, own: &[u32], lent: &[u32]) {
         let mut body = table_body(table);
         put_words(&mut body, own);
         put_words(&mut body, lent);
         self.add(6, what, body);
     }
 
-    fn first_row(&mut self, what: &'static str, room: u32, table: &Table) {
+    fn first_row(&mut self, what: &str, room: u32, table: &Table) {
         self.add(7, what, row_body(room, table));
     }
 
-    fn next_row(&mut self, what: &'static str, room: u32, table: &Table, row: &[u8]) {
+    fn next_row(&mut self, what: &str, room: u32, table: &Table, row: &[u8]) {
         let mut body = row_body(room, table);
         put_bytes(&mut body, row);
         self.add(8, what, body);
     }
 
-    fn regions(&mut self, what: &'static str, k: u32, table: &Table, own: &[u32], lent: &[u32]) {
+    fn regions(&mut self, what: &str, k: u32, table: &Table, own: &[u32], lent: &[u32]) {
         let mut body = row_body(k, table);
         put_words(&mut body, own);
         put_words(&mut body, lent);
         self.add(10, what, body);
     }
 
-    fn name(&mut self, what: &'static str, number: u32, cabinet: &[u8], house: &[u8]) {
+    fn name(&mut self, what: &str, number: u32, cabinet: &[u8], house: &[u8]) {
         self.add(11, what, name_body(number, cabinet, house));
     }
 }
@@ -472,9 +553,9 @@ fn reading(stream: &mut Stream) {
         &of_catalogue,
     );
     stream.read("a catalogue too short", 3, &[2], &of_catalogue);
-    for (what, plate, file) in turned_away_files() {
-        stream.add(1, what, read_body(plate, 3, &[], &file));
-    }
+    stream.files(1, 3);
+    let (what, plate, file) = blanked(ALL_BLANK, beside("no room"));
+    stream.add(1, &what, read_body(plate, 0, &[], &file));
 }
 
 /// A change of one record of the two jobs, by its place.
@@ -607,10 +688,39 @@ fn writing(stream: &mut Stream) {
     let short = write_body(PLATE, 42, &from_catalogue, &own, &[2]);
     stream.add(2, "a catalogue too short", short);
     for (what, cabinet) in [("24 bits", MOST_CABINET), ("25 bits", MOST_CABINET + 1)] {
-        let line = u16::MAX;
-        let plate = Plate { cabinet, line };
+        let plate = plate(cabinet, u16::MAX);
         stream.add(2, what, write_body(plate, 42, &table, &own, &[]));
     }
+    for (what, plate) in NEARLY_BLANK {
+        stream.add(2, what, write_body(plate, 42, &table, &own, &[]));
+    }
+    writing_blank(stream);
+}
+
+/// Zeros on the plate: by themselves, and beside something else that is asked before 18 or after
+/// it.
+fn writing_blank(stream: &mut Stream) {
+    let (table, own) = two_jobs();
+    for (name, zeros) in blank_plates() {
+        let mut plate = PLATE;
+        put_zeros(zeros, &mut plate, &mut []);
+        let mut write = |what: &str, room, table: &Table| {
+            let body = write_body(plate, room, table, &own, &[]);
+            stream.add(2, &format!("{name}{what}"), body);
+        };
+        write("", 42, &table);
+        write(", n is 0", 42, &changed(|table| table.n = 0));
+        write(", n is 16", 42, &changed(|table| table.n = 16));
+        write(", cost 0", 42, &tables(&OUT_OF_RANGE)[0].1);
+        write(", a priority of 0", 42, &tables(&BAD_ASSIGNMENTS)[0].1);
+        write(", count 0", 42, &tables(&BAD_REGIONS)[0].1);
+        write(", room for one byte less", 41, &table);
+    }
+    let (fifteen, _) = fifteen_jobs();
+    let words = write_body(plate(0, 0), 500, &fifteen, &[1; 101], &[]);
+    stream.add(2, "a blank plate, 101 words", words);
+    let wide = write_body(plate(1 << 24, 0), 42, &table, &own, &[]);
+    stream.add(2, "the plate's line is 0, its cabinet 25 bits", wide);
 }
 
 /// Document 01, "Bench figures", as far as response times go, and what turns the call away.
@@ -824,11 +934,10 @@ fn records(stream: &mut Stream) {
     let of_catalogue = file_of(&lent(&table, 0, 0), &own, &[2]);
     stream.record("regions in the catalogue", 1, &[2], &of_catalogue);
     stream.record("the same, another catalogue", 1, &[3], &of_catalogue);
-    for (what, plate, file) in turned_away_files() {
-        stream.add(9, what, read_body(plate, 1, &[], &file));
-    }
-    let other_line = field_changed(32, 16, 13);
-    stream.record("no such record of another line", 9, &[], &other_line);
+    stream.files(9, 1);
+    let (what, plate, file) = blanked(ALL_BLANK, beside("no such record"));
+    stream.add(9, &what, read_body(plate, 3, &[], &file));
+    stream.record("no such record of another line", 9, &[], &other_line_file());
 }
 
 fn regions(stream: &mut Stream) {
@@ -912,7 +1021,10 @@ pub fn refusals() -> String {
          The lines of `crates/ask/stdin`, a stream of requests, and of `crates/ask/stdout`, its \
          answers: line k answers request k. Both and this page are written by the second program \
          (`second cases`, `second ask`, `second refusals`); `tools/make-cases` makes them anew. \
-         Document 01, \"Numbers a turned-away call returns\", lists the numbers that each call asks.\n\n\
+         Document 01, \"Numbers a turned-away call returns\", lists the numbers that each call asks, and \
+         document 02, item 1, adds 18. They stand here in the order in which a call asks them, so that the \
+         first that applies is the one it gives: mostly the lowest, but 18 is asked straight after 2 in reading \
+         and straight after 5 in writing, and 13 before 11 for a record's regions.\n\n\
          ## By call and number\n\n\
          | call | number | lines |\n|---|---|---|\n",
     );
@@ -971,7 +1083,7 @@ pub fn small(folder: &str) -> io::Result<()> {
     ] {
         std::fs::create_dir_all(format!("{folder}/{program}"))?;
         for (name, input) in inputs {
-            let name = name.replace([' ', ',', '\''], "-");
+            let name = name.replace(", ", " ").replace([' ', ',', '\''], "-");
             std::fs::write(format!("{folder}/{program}/{name}.in"), input)?;
         }
     }
@@ -1013,7 +1125,7 @@ fn ask_streams() -> Vec<(String, Vec<u8>)> {
 fn list_inputs() -> Vec<(String, Vec<u8>)> {
     let input = |tasks: &[(u32, u32, u32)]| {
         let (table, own) = unassigned(tasks);
-        plated(&file_of(&table, &own, &[]))
+        plated(PLATE, &file_of(&table, &own, &[]))
     };
     let most = 1_000_000;
     let paper = input(&[(2, 5, 6), B]);
@@ -1039,7 +1151,7 @@ fn list_inputs() -> Vec<(String, Vec<u8>)> {
         ),
         ("deadline above period", input(&[(3, 6, 20), (4, 9, 20)])),
         ("cost above deadline", input(&[(3, 10, 2), (1, 10, 10)])),
-        ("assigned", plated(&two_jobs_file())),
+        ("assigned", plated(PLATE, &two_jobs_file())),
         ("empty", vec![]),
         ("four bytes", paper[..4].to_vec()),
         ("plate alone", paper[..5].to_vec()),
@@ -1051,9 +1163,13 @@ fn list_inputs() -> Vec<(String, Vec<u8>)> {
     ] {
         list.push((name.to_string(), input));
     }
+    for (what, plate, file) in nearly_blank_files() {
+        list.push((what, plated(plate, &file)));
+    }
     for (what, plate, file) in turned_away_files() {
-        if plate == PLATE {
-            list.push((format!("refused {what}"), plated(&file)));
+        // No plate on the input is above 24 bits.
+        if plate.cabinet <= MOST_CABINET {
+            list.push((format!("refused {what}"), plated(plate, &file)));
         }
     }
     list
@@ -1062,14 +1178,14 @@ fn list_inputs() -> Vec<(String, Vec<u8>)> {
 /// Plates and files for the program that shows a cabinet. What it is to print of each was written
 /// by hand, from the answers of `ask`.
 fn show_inputs() -> Vec<(String, Vec<u8>)> {
-    let input = |(table, own): (Table, Vec<u32>)| plated(&file_of(&table, &own, &[]));
+    let input = |(table, own): (Table, Vec<u32>)| plated(PLATE, &file_of(&table, &own, &[]));
     let most = 1_000_000;
     let order = [(1, 1), (2, 2)];
     let full = (600_000, most, most);
     let mut list = Vec::new();
     for (name, input) in [
         ("unassigned", input(unassigned(&[(2, 5, 6), B]))),
-        ("all well", plated(&two_jobs_file())),
+        ("all well", plated(PLATE, &two_jobs_file())),
         ("region too long", input(assigned(&[A, B], &order))),
         (
             "deadline above period",
@@ -1086,20 +1202,25 @@ fn show_inputs() -> Vec<(String, Vec<u8>)> {
         ("beyond", input(assigned(&[full, full], &order))),
         ("largest", input(assigned(&[(most, most, most)], &[(1, 1)]))),
         ("eight jobs", input(eight_jobs())),
-        ("another line", plated(&field_changed(32, 16, 13))),
-        ("damaged", plated(&flipped(&two_jobs_file(), 10))),
-        ("plate alone", plated(&[])),
-        ("four bytes", plated(&[])[..4].to_vec()),
+        ("another line", plated(PLATE, &other_line_file())),
+        ("damaged", plated(PLATE, &flipped(&two_jobs_file(), 10))),
+        ("plate alone", plated(PLATE, &[])),
+        ("four bytes", plated(PLATE, &[])[..4].to_vec()),
     ] {
         list.push((name.to_string(), input));
     }
+    for blank in [BLANK_FILE, BLANK_PLATE, ALL_BLANK] {
+        let (name, plate, file) = blanked(blank, beside(""));
+        list.push((name, plated(plate, &file)));
+    }
+    for fault in BESIDE_ZEROS {
+        // Of the numbers behind 18 one is enough here.
+        if [1, 2, 5].contains(&fault.0) {
+            let (name, plate, file) = blanked(ALL_BLANK, fault);
+            list.push((name, plated(plate, &file)));
+        }
+    }
     list
-}
-
-/// The file behind five plate bytes.
-fn plated(file: &[u8]) -> Vec<u8> {
-    let cabinet = PLATE.cabinet.to_be_bytes();
-    [&cabinet[1..], &PLATE.line.to_be_bytes(), file].concat()
 }
 
 /// Each call is turned away by every number that it asks, and by no other.
@@ -1107,7 +1228,7 @@ fn plated(file: &[u8]) -> Vec<u8> {
 fn every_refusal_is_reached() {
     let cases = all();
     for (place, (call, numbers)) in CALLS.iter().enumerate() {
-        for number in 1..=17 {
+        for number in 1..=18 {
             let lines = lines_of(&cases, place as u8 + 1, Some(number));
             assert_eq!(
                 lines.is_empty(),

@@ -1,6 +1,8 @@
-//! The conditions of document 01, "Numbers a turned-away call returns", each by itself. A call
-//! asks its own numbers from the lowest up, so that the lowest applicable one wins; a condition
-//! may therefore rely on the lower ones of its call.
+//! The conditions of document 01, "Numbers a turned-away call returns", each by itself, with 18 of
+//! document 02, item 1. A call asks its own numbers one by one, and the first that applies wins; a
+//! condition may therefore rely on those that its call asks before it. They are asked from the
+//! lowest up, but for two: 18 comes straight after 2 in reading and straight after 5 in writing,
+//! and a record's regions are asked 13 before 11.
 
 use crate::table::*;
 use std::fmt;
@@ -38,6 +40,11 @@ pub fn refuse(number: u8, when: bool) -> Result<(), Refusal> {
     } else {
         Ok(())
     }
+}
+
+/// 18, of a file or of a plate: cabinet 0 or line 0.
+pub fn blank(cabinet: u32, line: u32) -> bool {
+    cabinet == 0 || line == 0
 }
 
 /// 5, for n.

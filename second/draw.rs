@@ -67,19 +67,12 @@ fn unnamed_words(random: &mut Random, own: &mut Vec<u32>) {
     }
 }
 
-/// Blank plates (cabinet 0 or line 0) are seldom.
+/// Never blank, but with all bytes 0 but one now and then, whichever it is.
 fn plate(random: &mut Random) -> Plate {
-    let mut plate = Plate {
-        cabinet: random.one_of(&[1, 70_001, MOST_CABINET]),
-        line: random.one_of(&[1, 12, u16::MAX]),
-    };
-    if random.once_in(60) {
-        plate.cabinet = 0;
+    Plate {
+        cabinet: random.one_of(&[1, 0x100, 0x1_0000, 70_001, MOST_CABINET]),
+        line: random.one_of(&[1, 0x100, 12, u16::MAX]),
     }
-    if random.once_in(60) {
-        plate.line = 0;
-    }
-    plate
 }
 
 /// Mostly short. The long ones reach behind word 127, the last that a first region can name, and

@@ -1,4 +1,5 @@
-//! Reading and writing the file (document 01, "The file, bit by bit").
+//! Reading and writing the file (document 01, "The file, bit by bit"). No blank plate and no blank
+//! file is taken (document 02, item 1).
 
 use crate::bits::{Putter, Taker};
 use crate::checks::*;
@@ -16,7 +17,8 @@ pub fn length(n: usize, m: usize) -> usize {
     HEAD_BYTES + RECORD_BYTES * n + (20 * m).div_ceil(8) + SEAL_BYTES
 }
 
-/// Reading: asks 1 to 12, hands back the table and writes the file's region words to `out`.
+/// Reading: asks 1, 2, 18 and then 3 to 12, hands back the table and writes the file's region words
+/// to `out`.
 pub fn read(
     plate: Plate,
     catalogue: &[u32],
@@ -29,7 +31,8 @@ pub fn read(
     Ok(table)
 }
 
-/// Reading without an output: asks 1 to 11. Handing back a record reads the file like this.
+/// Reading without an output: asks 1, 2, 18 and then 3 to 11. Handing back a record reads the file
+/// like this.
 pub fn read_checked(
     plate: Plate,
     catalogue: &[u32],
@@ -38,6 +41,7 @@ pub fn read_checked(
     refuse(1, file.len() < SHORTEST)?;
     let head = take_head(file);
     refuse(2, head.edition != EDITION)?;
+    refuse(18, blank(head.cabinet, head.line) || plate_blank(plate))?;
     refuse(3, head.cabinet != plate.cabinet)?;
     refuse(4, head.line != plate.line as u32)?;
     refuse(5, task_count_wrong(head.n) || region_count_wrong(head.m))?;
@@ -49,6 +53,10 @@ pub fn read_checked(
     refuse(10, assignment_wrong(&table))?;
     refuse(11, regions_wrong(&table, &own, catalogue))?;
     Ok((table, own))
+}
+
+fn plate_blank(plate: Plate) -> bool {
+    blank(plate.cabinet, plate.line as u32)
 }
 
 pub struct Head {
@@ -112,7 +120,7 @@ fn take_record(fields: &mut Taker) -> Record {
     }
 }
 
-/// Writing: asks 5, 9, 10, 11, 12, writes the file to the front of `out` and hands back its
+/// Writing: asks 5, 18, 9, 10, 11, 12, writes the file to the front of `out` and hands back its
 /// length.
 pub fn write(
     plate: Plate,
@@ -125,6 +133,7 @@ pub fn write(
         5,
         task_count_wrong(table.n) || region_count_wrong(own.len()),
     )?;
+    refuse(18, plate_blank(plate))?;
     refuse(9, numbers_wrong(table) || plate.cabinet > MOST_CABINET)?;
     refuse(10, assignment_wrong(table))?;
     refuse(11, regions_wrong(table, own, catalogue))?;

@@ -18,7 +18,8 @@ const KINDS: [u8; 32] = [
     11, 11,
 ];
 
-/// How many single requests stand between two files that are cut at every length.
+/// How many single requests stand between two files that are cut at every length and blanked in
+/// every place.
 const BETWEEN_CUTS: u64 = 10_000;
 
 pub fn stream(seed: u64, count: u64, out: &mut impl FnMut(&[u8])) {
@@ -31,6 +32,7 @@ pub fn stream(seed: u64, count: u64, out: &mut impl FnMut(&[u8])) {
                 any_cabinet(random)
             };
             every_cut(&cabinet, out);
+            every_zero(&cabinet, out);
         }
         let kind = random.one_of(&KINDS);
         let body = body(random, kind);
@@ -65,26 +67,43 @@ fn every_cut(cabinet: &Cabinet, out: &mut impl FnMut(&[u8])) {
     let mut file = whole_file(cabinet);
     file.push(0);
     for cut in 0..=file.len() {
-        for kind in [1, 9] {
-            let mut body = Vec::new();
-            put_plate(&mut body, cabinet.plate);
-            put_two(&mut body, if kind == 1 { 100 } else { 1 });
-            put_words(&mut body, &cabinet.catalogue);
-            put_bytes(&mut body, &file[..cut]);
-            put_request(kind, &body, out);
+        put_read(cabinet.plate, &cabinet.catalogue, &file[..cut], out);
+    }
+}
+
+/// A file that reads with each zero by itself and with all of them, beside everything else that may
+/// be wrong there.
+fn every_zero(cabinet: &Cabinet, out: &mut impl FnMut(&[u8])) {
+    for (_, zeros) in alone_and_all() {
+        for fault in BESIDE_ZEROS {
+            let (mut plate, mut file) = (cabinet.plate, whole_file(cabinet));
+            put_blank(zeros, fault, &mut plate, &mut file);
+            put_read(plate, &cabinet.catalogue, &file, out);
         }
     }
 }
 
-/// The numbers by which reading turns away what stands on the listing's input: there is always
-/// room for the words.
-const READING: u64 = 11;
+/// Both requests that read a file: with room for all words, and for its first record.
+fn put_read(plate: Plate, catalogue: &[u32], file: &[u8], out: &mut impl FnMut(&[u8])) {
+    for kind in [1, 9] {
+        let mut body = Vec::new();
+        put_plate(&mut body, plate);
+        put_two(&mut body, if kind == 1 { 100 } else { 1 });
+        put_words(&mut body, catalogue);
+        put_bytes(&mut body, file);
+        put_request(kind, &body, out);
+    }
+}
+
+/// The numbers by which reading turns away what stands on the listing's input, as they are asked:
+/// there is always room for the words.
+const READING: [u8; 12] = [1, 2, 18, 3, 4, 5, 6, 7, 8, 9, 10, 11];
 
 /// Plate and file number k for the listing's program, five plate bytes first. Two in three are
 /// listed; the others are turned away, by each number in turn.
 pub fn input(random: &mut Random, k: u64) -> Vec<u8> {
     if k % 3 == 2 {
-        return turned_away_input(random, 1 + (k / 3 % READING) as u8);
+        return turned_away_input(random, READING[k as usize / 3 % READING.len()]);
     }
     let cabinet = loop {
         // A table of six has half a million rows, so few of them.
@@ -141,7 +160,8 @@ fn turned_away_input(random: &mut Random, number: u8) -> Vec<u8> {
     input
 }
 
-fn plated(plate: Plate, file: &[u8]) -> Vec<u8> {
+/// The file behind its five plate bytes.
+pub fn plated(plate: Plate, file: &[u8]) -> Vec<u8> {
     let cabinet = plate.cabinet.to_be_bytes();
     [&cabinet[1..], &plate.line.to_be_bytes(), file].concat()
 }
@@ -218,6 +238,9 @@ fn of_writing(random: &mut Random) -> Vec<u8> {
     spoil(random, &mut cabinet, &[0, 5, 9, 10, 11]);
     if random.once_in(12) {
         cabinet.plate.cabinet = random.one_of(&[MOST_CABINET, MOST_CABINET + 1, u32::MAX]);
+    }
+    if random.once_in(BLANK_ONCE_IN) {
+        blank_plate(random, &mut cabinet.plate);
     }
     let n = (cabinet.table.n as usize).min(MOST_TASKS);
     let mut body = Vec::new();

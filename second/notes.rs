@@ -16,6 +16,7 @@ use crate::file;
 use crate::lengths;
 use crate::listing::Row;
 use crate::reach::Tally;
+use crate::spoil::{blank_plates, Zero, ALONE, BLANKS};
 use crate::table::*;
 use tables::*;
 
@@ -34,26 +35,31 @@ const ANSWERS: [&[&str]; CALLS.len()] = [
     &["name"],
 ];
 
-/// Two numbers of a call that can apply together, neighbours among its numbers where these can:
-/// if each of these pairs is answered by its lower number, so is every other pair. A table isn't
+/// Two numbers of a call that can apply together, the one that is asked first first, neighbours
+/// among its numbers where these can: if each of these pairs is answered by its first, so is every
+/// other pair. Beside 18, which is asked out of its turn, there are more of them. A table isn't
 /// both ill formed (10) and unassigned (14).
 #[rustfmt::skip]
 const MEETINGS: [&[(u8, u8)]; CALLS.len()] = [
-    &[(1, 2), (2, 3), (3, 4), (4, 5), (5, 6), (6, 7), (7, 8), (8, 9), (9, 10), (10, 11), (11, 12)],
-    &[(5, 9), (9, 10), (10, 11), (11, 12)],
+    &[(1, 2), (1, 18), (2, 18), (2, 3), (18, 3), (18, 4), (18, 5), (18, 7), (18, 12),
+      (3, 4), (4, 5), (5, 6), (6, 7), (7, 8), (8, 9), (9, 10), (10, 11), (11, 12)],
+    &[(5, 18), (5, 9), (18, 9), (18, 10), (18, 11), (18, 12), (9, 10), (10, 11), (11, 12)],
     &[(5, 9), (9, 10), (9, 14)],
     &[(5, 9), (9, 10), (9, 14), (10, 15), (14, 15)],
     &[(5, 9), (9, 10), (9, 14), (10, 15), (14, 15), (15, 16)],
     &[(5, 9), (9, 10), (10, 11), (11, 14), (14, 15), (15, 16)],
     &[(5, 9), (9, 12)],
     &[(5, 9), (9, 12), (12, 17)],
-    &[(1, 2), (2, 3), (3, 4), (4, 5), (5, 6), (6, 7), (7, 8), (8, 9), (9, 10), (10, 11), (11, 13)],
+    &[(1, 2), (1, 18), (2, 18), (2, 3), (18, 3), (18, 4), (18, 5), (18, 7), (18, 13),
+      (3, 4), (4, 5), (5, 6), (6, 7), (7, 8), (8, 9), (9, 10), (10, 11), (11, 13)],
     &[(5, 13)],
     &[(9, 13)],
 ];
 
 /// How often a thing is wanted that the stream aims at.
 const AIMED_AT: u64 = 300;
+/// How often one is wanted of the many that share the few requests of blank plates and files.
+const SELDOM: u64 = 5;
 
 /// An answer's line, and what it says.
 struct Answer<'a> {
@@ -145,11 +151,33 @@ impl Faults {
         self.0.contains(&number)
     }
 
-    /// The lower of two is answered while the higher applies too: their order shows.
+    /// The first of two is answered while the second applies too: their order shows. Of 18 it is
+    /// noted too that nothing else applies: but for that the call would go on.
     fn note_meetings(&self, tally: &mut Tally, kind: u8, answer: &Answer) {
-        for (lower, higher) in MEETINGS[kind as usize - 1] {
-            let met = answer.refused(*lower) && self.has(*higher);
-            tally.note(&format!("{lower} before {higher}"), met);
+        let place = kind as usize - 1;
+        for (first, second) in MEETINGS[place] {
+            let met = answer.refused(*first) && self.has(*second);
+            tally.note(&format!("{first} before {second}"), met);
+        }
+        let asked = CALLS[place].1;
+        if asked.contains(&18) {
+            let others = asked.iter().any(|other| *other != 18 && self.has(*other));
+            tally.note("18 and no other", answer.refused(18) && !others);
+        }
+    }
+}
+
+/// The first number of each pair is asked before the second.
+#[test]
+fn meetings_are_in_the_order_asked() {
+    for ((call, asked), pairs) in CALLS.iter().zip(MEETINGS) {
+        let place = |number: u8| asked.iter().position(|other| *other == number);
+        for (first, second) in pairs {
+            let places = (place(*first), place(*second));
+            let (Some(first_asked), Some(second_asked)) = places else {
+                panic!("{call}: {first} and {second}");
+            };
+            assert!(first_asked < second_asked, "{call}: {first} and {second}");
         }
     }
 }

@@ -8,8 +8,8 @@ const NAME_BYTES: usize = 16;
 /// Name numbers below this one stand in the cabinet's list, the others (less this) in the house's.
 const FIRST_HOUSE_NAME: u32 = 64;
 
-/// The twelve bytes of a record in the caller's own file. Reads the file first, so asks 1 to 11,
-/// then 13.
+/// The twelve bytes of a record in the caller's own file. Reads the file first, so asks 1, 2, 18 and
+/// 3 to 11, then 13.
 pub fn record<'a>(
     plate: Plate,
     catalogue: &[u32],

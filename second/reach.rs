@@ -13,9 +13,10 @@ use std::io::{BufRead, Read, Write};
 /// A stream of fewer requests can't reach everything, so nothing is asserted of it but that each
 /// answer is one that its call can give.
 const SOME: u64 = 20_000;
-/// From this many requests on each thing must have come its wanted number of times; before, once.
+/// From this many requests on each thing must have come its wanted number of times; before, once,
+/// unless it is seldom.
 const MANY: u64 = 100_000;
-/// How often a thing is wanted of which nothing else is said.
+/// How often a thing is wanted of which nothing else is said. One that is wanted less is seldom.
 const LEAST: u64 = 20;
 
 /// What one call reached.
@@ -30,6 +31,19 @@ pub struct Tally {
 struct Thing {
     came: u64,
     wanted: u64,
+}
+
+impl Thing {
+    /// How often it must have come in a stream of so many requests, which are some at least.
+    fn wanted_of(&self, count: u64) -> u64 {
+        if count >= MANY {
+            self.wanted
+        } else if self.wanted >= LEAST {
+            1
+        } else {
+            0
+        }
+    }
 }
 
 impl Tally {
@@ -135,7 +149,7 @@ fn missing(tallies: &[Tally], count: u64) -> Vec<String> {
             lines.push(format!("{call}: no request"));
         }
         for (what, thing) in &tally.things {
-            let wanted = if count < MANY { 1 } else { thing.wanted };
+            let wanted = thing.wanted_of(count);
             if thing.came < wanted {
                 lines.push(format!(
                     "{call}, {what}: came {} times, wanted {wanted}",
@@ -145,4 +159,23 @@ fn missing(tallies: &[Tally], count: u64) -> Vec<String> {
         }
     }
     lines
+}
+
+#[test]
+fn what_is_wanted_of_a_stream() {
+    let mut tallies: [Tally; CALLS.len()] = Default::default();
+    for tally in &mut tallies {
+        tally.requests = 1;
+    }
+    tallies[0].note("often", false);
+    tallies[0].note_often(2, "seldom", false);
+    assert!(missing(&tallies, SOME - 1).is_empty());
+    let often = ["read, often: came 0 times, wanted 1"];
+    assert_eq!(missing(&tallies, SOME), often);
+    assert_eq!(missing(&tallies, MANY - 1), often);
+    let both = [
+        "read, often: came 0 times, wanted 20",
+        "read, seldom: came 0 times, wanted 2",
+    ];
+    assert_eq!(missing(&tallies, MANY), both);
 }

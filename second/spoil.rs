@@ -5,6 +5,7 @@ use crate::file;
 use crate::random::Random;
 use crate::seal::seal;
 use crate::table::*;
+use Zero::*;
 
 /// Numbers at a limit of the documents, and one past it.
 const EDGES: [u32; 20] = [
@@ -201,33 +202,42 @@ pub fn past_the_last(random: &mut Random, table: &mut Table) {
 /// catalogue another one.
 pub fn any_file(random: &mut Random, cabinet: &mut Cabinet) -> Vec<u8> {
     let mut file = whole_file(cabinet);
-    match random.from(0, 19) {
-        0 => file = random_bytes(random),
-        1 => flip(random, &mut file, 1),
-        2 => {
-            let bits = random.from(2, 40);
-            flip(random, &mut file, bits);
-        }
-        3 => {
-            flip(random, &mut file, 1);
-            seal_again(&mut file);
-        }
-        4 => other_length(random, &mut file),
-        5..=12 => {
-            for _ in 0..random.one_of(&[1, 1, 2, 3]) {
-                damage(random, cabinet, &mut file);
-            }
-            if file.len() >= 2 && !random.once_in(5) {
-                seal_again(&mut file);
-            }
-        }
-        _ => {}
+    if random.once_in(BLANK_ONCE_IN) {
+        some_zeros(random, cabinet, &mut file);
+    } else {
+        spoil_file(random, cabinet, &mut file);
+        other_plate(random, &mut cabinet.plate);
     }
-    other_plate(random, &mut cabinet.plate);
     if random.once_in(8) {
         other_catalogue(random, &mut cabinet.catalogue);
     }
     file
+}
+
+/// Leaves the file as it is, or makes it wrong in one of many ways.
+fn spoil_file(random: &mut Random, cabinet: &Cabinet, file: &mut Vec<u8>) {
+    match random.from(0, 19) {
+        0 => *file = random_bytes(random),
+        1 => flip(random, file, 1),
+        2 => {
+            let bits = random.from(2, 40);
+            flip(random, file, bits);
+        }
+        3 => {
+            flip(random, file, 1);
+            seal_again(file);
+        }
+        4 => other_length(random, file),
+        5..=12 => {
+            for _ in 0..random.one_of(&[1, 1, 2, 3]) {
+                damage(random, cabinet, file);
+            }
+            if !random.once_in(5) {
+                seal_again(file);
+            }
+        }
+        _ => {}
+    }
 }
 
 /// The cabinet's file.
@@ -267,20 +277,26 @@ fn flip(random: &mut Random, file: &mut [u8], bits: u32) {
     }
 }
 
+/// Seals the file anew; one that is shorter than any file has no seal and stays as it is.
 pub fn seal_again(file: &mut [u8]) {
+    if file.len() < file::SHORTEST {
+        return;
+    }
     let end = file.len() - 2;
     let sealed = seal(&file[..end]).to_be_bytes();
     file[end..].copy_from_slice(&sealed);
 }
 
-/// A plate of another line or cabinet, or of more than 24 bits; seldom. Never made blank here.
+/// A plate of another line or cabinet, or of more than 24 bits, of which the low 24 may be 0;
+/// seldom.
 fn other_plate(random: &mut Random, plate: &mut Plate) {
     if random.once_in(16) {
         plate.line ^= 1 << random.from(1, 15);
     }
     if random.once_in(16) {
-        let bit = random.from(1, 23);
-        plate.cabinet ^= 1 << random.one_of(&[bit, bit, 24]);
+        let other = plate.cabinet ^ 1 << random.from(1, 23);
+        let wide = plate.cabinet | 1 << 24;
+        plate.cabinet = random.one_of(&[other, other, other, other, wide, MOST_CABINET + 1]);
     }
 }
 
@@ -291,6 +307,11 @@ fn other_catalogue(random: &mut Random, catalogue: &mut Vec<u32>) {
         _ => wrong_word(random, catalogue),
     }
 }
+
+/// The bits at which cabinet, line and n start.
+pub const CABINET_AT: usize = 8;
+pub const LINE_AT: usize = 32;
+pub const N_AT: usize = 48;
 
 /// The bit at which a field of record k + 1 starts.
 pub const fn in_record(k: usize, field: usize) -> usize {
@@ -303,6 +324,13 @@ pub fn put(file: &mut [u8], at: usize, width: usize, value: u32) {
         let bit = (value >> (width - 1 - place) & 1) as u8;
         let at = at + place;
         file[at / 8] = file[at / 8] & !(0x80 >> (at % 8)) | bit << (7 - at % 8);
+    }
+}
+
+/// The same of a file that may be too short for the field, and then stays as it is.
+fn put_if_held(file: &mut [u8], at: usize, width: usize, value: u32) {
+    if at + width <= file.len() * 8 {
+        put(file, at, width, value);
     }
 }
 
@@ -332,9 +360,7 @@ fn damage(random: &mut Random, cabinet: &Cabinet, file: &mut Vec<u8>) {
         _ if m > 0 => (words + 20 * random.place(m), 20, wrong_ticks(random)),
         _ => (in_record(k, 76), 7, 0),
     };
-    if at + width <= file.len() * 8 {
-        put(file, at, width, value);
-    }
+    put_if_held(file, at, width, value);
 }
 
 /// Ticks that are out of range, as a file's 20 bits can say them, or seldom at a limit.
@@ -359,4 +385,161 @@ fn wrong_head_count(random: &mut Random, file: &mut Vec<u8>) {
     if length < 1000 && random.once_in(2) {
         file.resize(length, 0);
     }
+}
+
+// ---- blank plates and files
+
+/// Reading, a record and writing are asked of a blank cabinet once in so many requests.
+pub const BLANK_ONCE_IN: u32 = 20;
+
+/// Where a 0 makes a cabinet blank (document 02, item 1).
+#[derive(Clone, Copy, Debug, PartialEq)]
+pub enum Zero {
+    FileCabinet,
+    FileLine,
+    PlateCabinet,
+    PlateLine,
+}
+
+/// Zeros that stand together, and their name.
+pub type Blank = (&'static str, &'static [Zero]);
+
+pub const BOTH_CABINETS: Blank = ("both cabinets are 0", &[FileCabinet, PlateCabinet]);
+pub const BOTH_LINES: Blank = ("both lines are 0", &[FileLine, PlateLine]);
+pub const BLANK_FILE: Blank = ("a blank file", &[FileCabinet, FileLine]);
+pub const BLANK_PLATE: Blank = ("a blank plate", &[PlateCabinet, PlateLine]);
+/// What spare controllers had: but for 18 such a file loads.
+pub const ALL_BLANK: Blank = (
+    "a blank file on a blank plate",
+    &[FileCabinet, FileLine, PlateCabinet, PlateLine],
+);
+
+/// Each zero alone.
+pub const ALONE: [Blank; 4] = [
+    ("the file's cabinet is 0", &[FileCabinet]),
+    ("the file's line is 0", &[FileLine]),
+    ("the plate's cabinet is 0", &[PlateCabinet]),
+    ("the plate's line is 0", &[PlateLine]),
+];
+
+/// Each zero alone, each pair of them, and all four.
+pub const BLANKS: [Blank; 11] = [
+    ALONE[0],
+    ALONE[1],
+    ALONE[2],
+    ALONE[3],
+    BOTH_CABINETS,
+    BOTH_LINES,
+    BLANK_FILE,
+    BLANK_PLATE,
+    (
+        "the file's cabinet and the plate's line are 0",
+        &[FileCabinet, PlateLine],
+    ),
+    (
+        "the file's line and the plate's cabinet are 0",
+        &[FileLine, PlateCabinet],
+    ),
+    ALL_BLANK,
+];
+
+/// Each zero alone, and all four: what is tried beside each of `BESIDE_ZEROS`.
+pub fn alone_and_all() -> impl Iterator<Item = Blank> {
+    ALONE.into_iter().chain([ALL_BLANK])
+}
+
+/// Those of a plate alone, which writing asks.
+pub fn blank_plates() -> Vec<Blank> {
+    let on_plate = |zero: &Zero| [PlateCabinet, PlateLine].contains(zero);
+    let all = BLANKS.iter().copied();
+    all.filter(|(_, zeros)| zeros.iter().all(on_plate))
+        .collect()
+}
+
+/// Puts these zeros on a plate and into a file. One that is too short for its cabinet or its line
+/// is left as it is.
+pub fn put_zeros(zeros: &[Zero], plate: &mut Plate, file: &mut [u8]) {
+    for zero in zeros {
+        match zero {
+            FileCabinet => put_if_held(file, CABINET_AT, 24, 0),
+            FileLine => put_if_held(file, LINE_AT, 16, 0),
+            PlateCabinet => plate.cabinet = 0,
+            PlateLine => plate.line = 0,
+        }
+    }
+}
+
+/// Something that is wrong with a file: the number that reading gives it, a few words that say
+/// what, and the change that makes it so.
+pub type Fault = (u8, &'static str, fn(&mut Vec<u8>));
+
+/// No file that is drawn or stored names this cabinet, or this line.
+pub const ANOTHER_CABINET: Fault = (3, "another cabinet", |file| {
+    put(file, CABINET_AT, 24, 70_003)
+});
+pub const ANOTHER_LINE: Fault = (4, "another line", |file| put(file, LINE_AT, 16, 13));
+
+/// What reading asks before 18, and what soon after it.
+pub const BESIDE_ZEROS: [Fault; 7] = [
+    (1, "seven bytes", |file| file.truncate(7)),
+    (1, "21 bytes", |file| file.truncate(21)),
+    (2, "edition 2", |file| put(file, 0, 4, 2)),
+    ANOTHER_CABINET,
+    ANOTHER_LINE,
+    (5, "n is 16", |file| put(file, N_AT, 8, 16)),
+    (7, "a wrong seal", |file| {
+        if let Some(last) = file.last_mut() {
+            *last ^= 0x10;
+        }
+    }),
+];
+
+/// Zeros on a plate and in its file, beside something else that is wrong. The zeros are put over
+/// any change, and the file is sealed behind them; only a wrong seal comes after that.
+pub fn put_blank(
+    zeros: &[Zero],
+    (number, _, change): Fault,
+    plate: &mut Plate,
+    file: &mut Vec<u8>,
+) {
+    if number != 7 {
+        change(file);
+    }
+    put_zeros(zeros, plate, file);
+    seal_again(file);
+    if number == 7 {
+        change(file);
+    }
+}
+
+/// Zeros on the plate and in a file that is whole; in half of them beside something else that
+/// reading turns away, before 18 or after it.
+fn some_zeros(random: &mut Random, cabinet: &mut Cabinet, file: &mut Vec<u8>) {
+    let any = random.one_of(&BLANKS);
+    let (_, zeros) = random.one_of(&[any, any, any, ALL_BLANK]);
+    put_zeros(zeros, &mut cabinet.plate, file);
+    let mut seal_wrong = false;
+    match random.from(0, 17) {
+        0 => file.truncate(random.place(file::HEAD_BYTES)),
+        1 => file.truncate(random.from(8, 21) as usize),
+        2 | 3 => put(file, 0, 4, random.one_of(&[0, 2, 3, 15])),
+        4 | 5 => wrong_head_count(random, file),
+        6 => damage(random, cabinet, file),
+        7 | 8 => seal_wrong = true,
+        _ => {}
+    }
+    seal_again(file);
+    if seal_wrong {
+        flip(random, file, 1);
+    }
+}
+
+/// A plate for the writer, blank in one of three ways; where only its line is 0, its cabinet may
+/// be above 24 bits.
+pub fn blank_plate(random: &mut Random, plate: &mut Plate) {
+    let (_, zeros) = random.one_of(&blank_plates());
+    if random.once_in(3) {
+        plate.cabinet = MOST_CABINET + 1;
+    }
+    put_zeros(zeros, plate, &mut []);
 }

@@ -2,6 +2,7 @@
 
 mod asking;
 mod bench;
+mod blank;
 mod brute;
 mod cases;
 mod files;
@@ -52,6 +53,13 @@ pub fn whole_regions(table: &mut Table) -> Vec<u32> {
         record.count = 1;
     }
     table.tasks().iter().map(|task| task.cost).collect()
+}
+
+/// Two jobs, each with one region of its own.
+fn two_jobs() -> (Table, Vec<u32>) {
+    let mut table = assigned(&[(2, 5, 5), (4, 10, 10)], &[1, 2], &[1, 2]);
+    let own = whole_regions(&mut table);
+    (table, own)
 }
 
 /// The file of a table that the writer takes.

@@ -46,10 +46,11 @@ fn contents(file: &[u8]) -> Option<(Table, Vec<u32>, u32)> {
     Some(file::take_all(file, head.n, head.m))
 }
 
-/// Which of 1 to 11 apply to a file; 8 to 11 only where its fields can be taken.
+/// Which of 1, 2, 18 and 3 to 11 apply to a file; 8 to 11 only where its fields can be taken.
 fn file_faults(plate: Plate, catalogue: &[u32], file: &[u8]) -> Faults {
     let mut faults = Faults(Vec::new());
     faults.add(1, file.len() < file::SHORTEST);
+    faults.add(18, !zeros(plate, file).is_empty());
     if let Some(head) = head_of(file) {
         let length = file::length(head.n as usize, head.m);
         faults.add(2, head.edition != file::EDITION);
@@ -68,6 +69,54 @@ fn file_faults(plate: Plate, catalogue: &[u32], file: &[u8]) -> Faults {
     faults
 }
 
+/// The zeros in a file that is long enough for them and on a plate, in the order of `Zero`.
+fn zeros(plate: Plate, file: &[u8]) -> Vec<Zero> {
+    let head = head_of(file).map_or((1, 1), |head| (head.cabinet, head.line));
+    let fields = [
+        (Zero::FileCabinet, head.0),
+        (Zero::FileLine, head.1),
+        (Zero::PlateCabinet, plate.cabinet),
+        (Zero::PlateLine, plate.line as u32),
+    ];
+    let zeros = fields.into_iter().filter(|(_, number)| *number == 0);
+    zeros.map(|(zero, _)| zero).collect()
+}
+
+/// Each zero alone, each pair of them and all four turned away by 18; each zero alone beside what
+/// is asked before 18 and after it; and a plate whose low 24 bits alone are 0, which isn't blank.
+fn note_blank(tally: &mut Tally, plate: Plate, file: &[u8], faults: &Faults, answer: &Answer) {
+    let zeros = zeros(plate, file);
+    for (what, blank) in BLANKS {
+        let came = answer.refused(18) && zeros == blank;
+        tally.note_often(SELDOM, what, came);
+    }
+    for (what, blank) in ALONE {
+        for number in [1, 2, 3, 4, 5, 7] {
+            let first = if number < 3 { number } else { 18 };
+            let came = answer.refused(first) && faults.has(number) && zeros == blank;
+            tally.note_often(SELDOM, &format!("{what}, with {number}"), came);
+        }
+    }
+    let short = answer.refused(1) && faults.has(18);
+    let head = file.len() >= file::HEAD_BYTES;
+    tally.note_often(SELDOM, "1 before 18, no head", short && !head);
+    tally.note_often(SELDOM, "1 before 18, a head", short && head);
+    let wide = answer.refused(3) && plate.cabinet == MOST_CABINET + 1;
+    tally.note("a plate of 2^24 turned away", wide);
+}
+
+/// Cabinets and lines that are taken: of a single byte that isn't 0, and the largest.
+fn note_plate(tally: &mut Tally, plate: Plate, answer: &Answer) {
+    for cabinet in [1, 0x100, 0x1_0000, MOST_CABINET] {
+        let came = answer.taken() && plate.cabinet == cabinet;
+        tally.note(&format!("cabinet {cabinet}"), came);
+    }
+    for line in [1, 0x100, u16::MAX] {
+        let came = answer.taken() && plate.line == line;
+        tally.note(&format!("line {line}"), came);
+    }
+}
+
 /// What reading and the record share. The seal is right where one of 8 to 12 decides.
 fn note_file(
     tally: &mut Tally,
@@ -82,6 +131,7 @@ fn note_file(
     let met = several && decided;
     tally.note_often(AIMED_AT, "two of 8 to 11, sealed", met);
     note_head(tally, plate, file, answer);
+    note_blank(tally, plate, file, faults, answer);
     let (table, own, _) = contents(file).unwrap_or_default();
     note_numbers(tally, &table, answer);
     note_words(tally, &own, answer);
@@ -91,9 +141,7 @@ fn note_file(
 fn note_head(tally: &mut Tally, plate: Plate, file: &[u8], answer: &Answer) {
     let (n, m) = head_of(file).map_or((0, 0), |head| (head.n, head.m));
     note_counts(tally, n, Some(m), answer);
-    let largest = answer.taken() && plate.cabinet == MOST_CABINET;
-    tally.note("the largest cabinet", largest);
-    tally.note("the largest line", answer.taken() && plate.line == u16::MAX);
+    note_plate(tally, plate, answer);
     let wide = answer.refused(3) && plate.cabinet > MOST_CABINET;
     tally.note("a plate above 24 bits turned away", wide);
     let longest = file::length(MOST_TASKS, MOST_REGION_WORDS);
@@ -114,19 +162,24 @@ pub fn of_writing(tally: &mut Tally, mut body: Body, answer: &Answer) -> Option<
     let catalogue = body.words()?;
     let needed = file::length(held(&table).n as usize, own.len());
     let mut faults = table_faults(&table, Some((&own, &catalogue)));
+    let zeros = zeros(plate, &[]);
+    faults.add(18, !zeros.is_empty());
     faults.add(9, plate.cabinet > MOST_CABINET);
     faults.add(12, room < needed);
     faults.note_meetings(tally, 2, answer);
+    for (what, blank) in blank_plates() {
+        tally.note(what, answer.refused(18) && zeros == blank);
+    }
+    let line = answer.refused(18) && plate.cabinet > MOST_CABINET;
+    tally.note_often(SELDOM, "line 0 of a cabinet above 24 bits", line);
+    note_plate(tally, plate, answer);
     note_table(tally, &table, answer);
     note_counts(tally, table.n, Some(own.len()), answer);
     note_words(tally, &own, answer);
     note_lists(tally, &table, &own, &catalogue, answer);
     note_places(tally, &table, (&own, &catalogue), answer);
     note_room(tally, room, needed, answer);
-    let largest = answer.taken() && plate.cabinet == MOST_CABINET;
-    tally.note("the largest cabinet", largest);
     let wide = answer.refused(9) && plate.cabinet == MOST_CABINET + 1;
     tally.note("a cabinet of 2^24 turned away", wide);
-    tally.note("the largest line", answer.taken() && plate.line == u16::MAX);
     Some(())
 }

@@ -185,6 +185,25 @@ fn kinds_9_to_11_parts() {
     assert_eq!(name(300), "refused 9");
 }
 
+/// A plate of cabinet 0 or line 0 is 18, and nothing that was lent is touched.
+#[test]
+fn blank_plates() {
+    let (table, own) = two_jobs();
+    let file = file_of(&table, &own, &[]);
+    for (cabinet, line) in [(0, 12), (70_001, 0), (0, 0)] {
+        let plate = || start().four(cabinet).two(line);
+        let read = answer(1, plate().two(2).words(&[]).bytes(&file));
+        assert_eq!(read, "refused 18 out 2779096485 2779096485");
+        let write = answer(2, plate().two(2).table(&table).words(&own).words(&[]));
+        assert_eq!(write, "refused 18 out a5a5");
+        let record = answer(9, plate().two(1).words(&[]).bytes(&file));
+        assert_eq!(record, "refused 18");
+    }
+    // Four bytes of the cabinet are asked, not three.
+    let wide = start().four(1 << 24).two(12).two(1);
+    assert_eq!(answer(9, wide.words(&[]).bytes(&file)), "refused 3");
+}
+
 #[test]
 fn any_source_but_0_is_the_catalogue() {
     let (table, own) = two_jobs();

@@ -1,18 +1,17 @@
 //! The stored stream of requests: what document 02, item 6, asks of it.
 
+use super::blank::Request;
 use crate::ask::Body;
 use crate::cases;
 use crate::file::{length, read_checked};
-use crate::spoil::{in_record, put, seal_again};
+use crate::spoil::{in_record, put, seal_again, N_AT};
 
-/// The requests of the stored stream, kind and body, each with the line that answers it. The
-/// last one is a bad request and has none.
-fn requests() -> Vec<(u8, Vec<u8>, String)> {
-    let stream = cases::stream();
+/// The requests of a stream, kind and body, each with the line that answers it.
+pub fn requests(stream: &[u8]) -> Vec<(u8, Vec<u8>, String)> {
     let mut output = Vec::new();
-    crate::ask::run(&stream[..], &mut output).expect("answers");
+    crate::ask::run(stream, &mut output).expect("answers");
     let text = String::from_utf8(output).expect("text");
-    let mut rest = &stream[..];
+    let mut rest = stream;
     let mut list = Vec::new();
     for line in text.lines() {
         let (head, more) = rest.split_at(3);
@@ -21,6 +20,12 @@ fn requests() -> Vec<(u8, Vec<u8>, String)> {
         rest = &more[length..];
     }
     assert!(rest.is_empty());
+    list
+}
+
+/// Those of the stored stream. The last one is a bad request and is left out.
+fn stored() -> Vec<(u8, Vec<u8>, String)> {
+    let mut list = requests(&cases::stream());
     assert_eq!(
         list.pop().map(|last| last.2).as_deref(),
         Some("bad request")
@@ -68,12 +73,14 @@ const ASK_5: [(u8, &str); 10] = [
 
 #[test]
 fn fifteen_tasks_are_answered_and_none_and_sixteen_are_not() {
-    let requests = requests();
+    let requests = stored();
     for (kind, begin) in ASK_5 {
         let of = |n| {
-            let named = requests
-                .iter()
-                .filter(move |(k, body, _)| *k == kind && n_of(kind, body) == Some(n));
+            // Reading asks 18 before 5.
+            let asked = move |body: &[u8]| kind == 2 || !Request::is_blank(kind, body);
+            let named = requests.iter().filter(move |(k, body, _)| {
+                *k == kind && n_of(kind, body) == Some(n) && asked(body)
+            });
             named.map(|(_, _, line)| line.as_str())
         };
         assert!(of(15).any(|line| line.starts_with(begin)), "{kind}");
@@ -102,7 +109,7 @@ fn the_number_of_records_alone_is_wrong() {
     for file in [&mut sixteen, &mut none] {
         assert_eq!(file.len(), length(0, file[7] as usize));
         file.splice(8..8, records[..record(15) - 8].iter().copied());
-        put(file, 48, 8, 15);
+        put(file, N_AT, 8, 15);
         seal_again(file);
         assert_eq!(read_checked(cases::PLATE, &[], file).map(|_| ()), Ok(()));
     }
@@ -111,7 +118,7 @@ fn the_number_of_records_alone_is_wrong() {
 /// Of those that are lent a table some have nothing wrong but n: with fifteen they are answered.
 #[test]
 fn n_alone_is_wrong() {
-    let requests = requests();
+    let requests = stored();
     for kind in [2, 3, 4, 5, 6, 7, 8, 10] {
         for n in [0, 16] {
             let mended = requests.iter().any(|(k, body, _)| {

@@ -38,6 +38,24 @@ fn turned_away() {
     );
 }
 
+/// Cabinet 0 or line 0, in the file or on the plate; a short file and another edition come first.
+#[test]
+fn blank_plates_and_files() {
+    let mut blank = two_jobs();
+    blank[1..6].fill(0);
+    let blank = resealed(blank);
+    for plate in [[0, 0, 0, 0, 0x0c], [0x01, 0x11, 0x71, 0, 0], [0; 5]] {
+        assert_eq!(listed(&plate, &two_jobs()), "refused 18\n");
+        assert_eq!(listed(&plate, &blank), "refused 18\n");
+        assert_eq!(listed(&plate, &blank[..21]), "refused 1\n");
+        assert_eq!(listed(&plate, &[]), "refused 1\n");
+    }
+    assert_eq!(listed(&PLATE_BYTES, &blank), "refused 18\n");
+    let mut edition = blank;
+    edition[0] = 0x20;
+    assert_eq!(listed(&[0; 5], &resealed(edition)), "refused 2\n");
+}
+
 #[test]
 fn bytes_past_the_file() {
     let padded = |more: usize| [two_jobs(), vec![0; more]].concat();

@@ -76,6 +76,8 @@ fn wrong_descriptions() {
     assert_eq!(made(""), None);
     assert_eq!(made("cabinet 1\nline 65536\n"), None);
     assert_eq!(made(&TWO_JOBS.replace("70001", "16777216")), None);
+    assert_eq!(made(&TWO_JOBS.replace("70001", "0")), None);
+    assert_eq!(made(&TWO_JOBS.replace("line 12", "line 0")), None);
     let unassigned = "task cost 2 period 5 deadline 6 priority 0 threshold 0 own 0 1 name 3\n";
     let tasks = |n| format!("cabinet 1\nline 1\nregions 2\n{}", unassigned.repeat(n));
     assert!(made(&tasks(0)).is_none());

@@ -47,6 +47,12 @@ fn a_missing_outcome_is_named() {
     assert_eq!(missing(&whole, &answers(&whole)), None);
     for (kind, begin, line) in [
         (1, "refused 8", "read, refused 8: came 0 times, wanted 1"),
+        (2, "refused 18", "write, refused 18: came 0 times, wanted 1"),
+        (
+            9,
+            "refused 18",
+            "record, 18 before 7: came 0 times, wanted 1",
+        ),
         (6, "unfit", "region check, unfit: came 0 times, wanted 1"),
         (8, "row", "next row, row: came 0 times, wanted 1"),
         (

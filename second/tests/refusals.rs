@@ -1,5 +1,5 @@
 //! Every number of document 01, "Numbers a turned-away call returns", at its edges, and which
-//! number wins where two apply.
+//! number wins where two apply. 18, of document 02, stands in blank.rs.
 
 use super::*;
 use crate::analysis::response_times;
@@ -11,12 +11,6 @@ use crate::parts;
 
 fn refused<T>(number: u8) -> Result<T, Refusal> {
     Err(Refusal::of(number))
-}
-
-fn two_jobs() -> (Table, Vec<u32>) {
-    let mut table = assigned(&[(2, 5, 5), (4, 10, 10)], &[1, 2], &[1, 2]);
-    let own = whole_regions(&mut table);
-    (table, own)
 }
 
 /// What reading says of the file of two jobs after this change, sealed anew.
@@ -157,7 +151,7 @@ fn writing_lists_and_cabinets() {
     assert_eq!(write(largest, &table, &own, &[0, 4], &mut [0; 39]), Ok(39));
     let too_large = Plate {
         cabinet: 1 << 24,
-        line: 0,
+        line: 1,
     };
     assert_eq!(
         write(too_large, &table, &own, &[0, 4], &mut [0; 39]),

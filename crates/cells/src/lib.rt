@@ -141,6 +141,7 @@ fn put_reason(buf: &mut [u8], at: usize, r: Refusal) -> usize
             say::word(buf, named, b" is below zero")
         }
         Refusal::BadRow => say::word(buf, at, b"the row is not well formed"),
+        Refusal::BlankPlate => say::word(buf, at, b"the file or the plate has cabinet 0 or line 0"),
     }
 }
 

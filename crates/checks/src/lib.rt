@@ -1,4 +1,4 @@
-// The conditions that the refusals 5, 9, 10, 14 and 15 ask, shared by all calls.
+// The conditions that the refusals 5, 9, 10, 14, 15 and 18 ask, shared by the calls.
 ghost use mathlib.Core.Path.{_≡_};
 ghost use mathlib.Core.Bool.{not};
 ghost use Prim.Native.Nat.{_≤_};
@@ -6,6 +6,7 @@ ghost use lib.Dec.{leb, eqb};
 ghost use lib.ListN.{getD};
 ghost use Rattle.paper.specs.Vocabulary.{every};
 ghost use Rattle.paper.specs.Numbers.{mostTasks, rec, tasksInRange, countsInRange, ticksInRange, recordInRange, recordsInRange, eachOnce, thresholdsHold, unassigned, assignmentHolds};
+ghost use Rattle.paper.specs.Refusals.{blank};
 ghost use Rattle.columns.specs.Columns.{assignedBy};
 ghost use Rattle.checks.specs.Tests.{passesTest};
 use columns::Column;
@@ -22,6 +23,13 @@ pub fn counts_in_range(n: usize, m: usize) -> bool
     ensures { λ b. ⌜ b ≡ countsInRange n m ⌝ }
 {
     tasks_in_range(n) & (m <= paper::MOST_WORDS)
+}
+
+// 18: cabinet 0 or line 0, of a file or of a plate.
+pub fn is_blank(cabinet: u64, line: u64) -> bool
+    ensures { λ b. ⌜ b ≡ blank cabinet line ⌝ }
+{
+    (cabinet == 0) | (line == 0)
 }
 
 // 9: the ranges.

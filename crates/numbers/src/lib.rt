@@ -25,5 +25,6 @@ pub fn number_of(r: Refusal) -> u64
         Refusal::DeadlineAbovePeriod => 15,
         Refusal::ToleranceBelowZero(_) => 16,
         Refusal::BadRow => 17,
+        Refusal::BlankPlate => 18,
     }
 }

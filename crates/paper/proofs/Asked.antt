@@ -1,4 +1,4 @@
--- The numbers that each call asks, in the order asked, as document 01 lists them under its table. By computation.
+-- The numbers that each call asks, in the order asked, as document 01 lists them under its table, with 18 where document 02, item 1, adds it. By computation.
 use Prim.Native.Nat.{ℕ}
 use mathlib.Core.Path.{_≡_, refl}
 use mathlib.Core.List.{List, [], _∷_, map}
@@ -8,15 +8,15 @@ use Rattle.paper.specs.declared.Table.{Table}
 abbrev numbers : Asks → List ℕ
 numbers asks = map (λ a. numberOf (a .0)) asks
 
--- Reading asks 1 to 12
+-- Reading asks 1 to 12, and 18 straight after 2
 pub reading : (f : List ℕ) (cabinet line : ℕ) (catalogue : List ℕ) (room : ℕ)
-    → numbers (readAsks f cabinet line catalogue room) ≡ 1 ∷ 2 ∷ 3 ∷ 4 ∷ 5 ∷ 6 ∷ 7 ∷ 8 ∷ 9 ∷ 10 ∷ 11 ∷ 12 ∷ []
+    → numbers (readAsks f cabinet line catalogue room) ≡ 1 ∷ 2 ∷ 18 ∷ 3 ∷ 4 ∷ 5 ∷ 6 ∷ 7 ∷ 8 ∷ 9 ∷ 10 ∷ 11 ∷ 12 ∷ []
 reading f cabinet line catalogue room = refl
 
--- Writing asks 5, 9, 10, 11, 12
-pub writing : (t : Table) (cabinet : ℕ) (own catalogue : List ℕ) (room : ℕ)
-    → numbers (writeAsks t cabinet own catalogue room) ≡ 5 ∷ 9 ∷ 10 ∷ 11 ∷ 12 ∷ []
-writing t cabinet own catalogue room = refl
+-- Writing asks 5, 9, 10, 11, 12, and 18 straight after 5
+pub writing : (t : Table) (cabinet line : ℕ) (own catalogue : List ℕ) (room : ℕ)
+    → numbers (writeAsks t cabinet line own catalogue room) ≡ 5 ∷ 18 ∷ 9 ∷ 10 ∷ 11 ∷ 12 ∷ []
+writing t cabinet line own catalogue room = refl
 
 -- Response times ask 5, 9, 10, 14
 pub response-times : (t : Table) → numbers (timesAsks t) ≡ 5 ∷ 9 ∷ 10 ∷ 14 ∷ []
@@ -39,9 +39,9 @@ first-row t room = refl
 pub next-row : (t : Table) (given : List ℕ) (room : ℕ) → numbers (nextAsks t given room) ≡ 5 ∷ 9 ∷ 12 ∷ 17 ∷ []
 next-row t given room = refl
 
--- Handing back a record asks 1 to 11, then 13
+-- Handing back a record asks 1 to 11, with 18 as reading has it, then 13
 pub a-record : (f : List ℕ) (cabinet line : ℕ) (catalogue : List ℕ) (number : ℕ)
-    → numbers (recordAsks f cabinet line catalogue number) ≡ 1 ∷ 2 ∷ 3 ∷ 4 ∷ 5 ∷ 6 ∷ 7 ∷ 8 ∷ 9 ∷ 10 ∷ 11 ∷ 13 ∷ []
+    → numbers (recordAsks f cabinet line catalogue number) ≡ 1 ∷ 2 ∷ 18 ∷ 3 ∷ 4 ∷ 5 ∷ 6 ∷ 7 ∷ 8 ∷ 9 ∷ 10 ∷ 11 ∷ 13 ∷ []
 a-record f cabinet line catalogue number = refl
 
 -- regions ask 5, 13, then 11

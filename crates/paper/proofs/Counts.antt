@@ -27,9 +27,9 @@ pub with-5 : numberOf WrongCounts ≡ 5
 with-5 = refl
 
 -- of a table it is asked first
-abbrev asksOfTable : Table → List ℕ → List ℕ → List ℕ → ℕ → ℕ → ℕ → List Asks
-asksOfTable t own catalogue given cabinet room number =
-    writeAsks t cabinet own catalogue room ∷
+abbrev asksOfTable : Table → List ℕ → List ℕ → List ℕ → ℕ → ℕ → ℕ → ℕ → List Asks
+asksOfTable t own catalogue given cabinet line room number =
+    writeAsks t cabinet line own catalogue room ∷
     timesAsks t ∷
     tolerancesAsks t ∷
     lengthsAsks t ∷
@@ -38,18 +38,19 @@ asksOfTable t own catalogue given cabinet room number =
     nextAsks t given room ∷
     regionsAsks t own catalogue number ∷ []
 
-pub table-refused : (t : Table) → tasksInRange (t .n) ≡ false → (own catalogue given : List ℕ) (cabinet room number : ℕ)
-    → map (λ asks. firstOf asks) (asksOfTable t own catalogue given cabinet room number) ≡ replicate 8 (Refused WrongCounts)
-table-refused t e own catalogue given cabinet room number = rw e refl
+pub table-refused : (t : Table) → tasksInRange (t .n) ≡ false → (own catalogue given : List ℕ) (cabinet line room number : ℕ)
+    → map (λ asks. firstOf asks) (asksOfTable t own catalogue given cabinet line room number) ≡ replicate 8 (Refused WrongCounts)
+table-refused t e own catalogue given cabinet line room number = rw e refl
 
--- of a file behind 1 to 4
-abbrev asksOfFile : List ℕ → ℕ → ℕ → List ℕ → ℕ → ℕ → List Asks
+-- what is asked of a file: by itself, to read it, to hand back a record
+abbrev pub asksOfFile : List ℕ → ℕ → ℕ → List ℕ → ℕ → ℕ → List Asks
 asksOfFile f cabinet line catalogue room number =
     fileAsks f cabinet line catalogue ∷ readAsks f cabinet line catalogue room ∷ recordAsks f cabinet line catalogue number ∷ []
 
+-- of a file it is asked behind 1, 2, 18, 3, 4
 pub file-refused : (f : List ℕ) (cabinet line : ℕ) (catalogue : List ℕ) (room number : ℕ)
-    → NoneApplies (take 4 (fileAsks f cabinet line catalogue))
+    → NoneApplies (take 5 (fileAsks f cabinet line catalogue))
     → tasksInRange (tasksIn f) ≡ false
     → map (λ asks. firstOf asks) (asksOfFile f cabinet line catalogue room number) ≡ replicate 3 (Refused WrongCounts)
 file-refused f cabinet line catalogue room number clear e =
-    rw (clear .0, clear .1 .0, clear .1 .1 .0, clear .1 .1 .1 .0, e) refl
+    rw (clear .0, clear .1 .0, clear .1 .1 .0, clear .1 .1 .1 .0, clear .1 .1 .1 .1 .0, e) refl

@@ -17,4 +17,5 @@ pub mod Writing
 pub mod Costs
 pub mod Sizes
 pub mod Counts
+pub mod Plates
 pub mod Places

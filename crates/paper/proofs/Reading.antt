@@ -1,7 +1,7 @@
 -- Reading a file: what is known of a file that was read, and that nothing else keeps a file from being read.
 use Prim.{tt}
 use mathlib.Core.Path.{_≡_, ap}
-use mathlib.Core.Bool.{true, not}
+use mathlib.Core.Bool.{true, false, not}
 use mathlib.Core.List.{List}
 use Prim.Native.Nat.{ℕ, _-_, _≤_}
 use borrow.Author.Tests.{leb-true, ltb-false, eqb-true, not-false, le-leb, le-ltb, eq-eqb}
@@ -10,19 +10,21 @@ use lib.ListN.{length}
 use Rattle.paper.specs.Numbers.{mostTasks, mostWords, countsInRange, tasksInRange, recordsInRange, assignmentHolds}
 use Rattle.paper.specs.File.{editionIn, cabinetIn, lineIn, tasksIn, wordsIn, shortest, fileLength, sealed, spareClear, recordsIn, regionWords}
 use Rattle.paper.specs.Regions.{allRegionsHold}
-use Rattle.paper.specs.Refusals.{readAsks}
+use Rattle.paper.specs.Refusals.{blank, readAsks}
 use Rattle.paper.specs.Answers.{readOutcome}
 use Rattle.paper.specs.declared.Outcome.the-variants.{Done}
-use Rattle.paper.proofs.Tests.{both, _and_, within}
+use Rattle.paper.proofs.Tests.{both, neither, _and_, within}
 use Rattle.paper.proofs.Asks.{done-none, none-done}
+use Rattle.paper.proofs.Plates.{plate-says}
 
 -- What is known of a file that was read for a cabinet and a line, with a catalogue, into room for so many words.
 pub record Loaded (f : List ℕ) (cabinet line : ℕ) (catalogue : List ℕ) (room : ℕ) : Type 0 where
   pub long : shortest ≤ length f
   pub edition : editionIn f ≡ 1
-  -- it is the plate's
+  -- it is the plate's, and the plate is not blank
   pub cabinets : cabinetIn f ≡ cabinet
   pub lines : lineIn f ≡ line
+  pub plated : blank cabinet line ≡ false
   pub some-tasks : 1 ≤ tasksIn f
   pub few-tasks : tasksIn f ≤ mostTasks
   pub few-words : wordsIn f ≤ mostWords
@@ -40,7 +42,8 @@ module _ (f : List ℕ) (cabinet line : ℕ) (catalogue : List ℕ) (room : ℕ)
   read-says e =
       let a1 = done-none (readAsks f cabinet line catalogue room) e in
       let a2 = a1 .1 in
-      let a3 = a2 .1 in
+      let a18 = a2 .1 in
+      let a3 = a18 .1 in
       let a4 = a3 .1 in
       let a5 = a4 .1 in
       let a6 = a5 .1 in
@@ -57,6 +60,7 @@ module _ (f : List ℕ) (cabinet line : ℕ) (catalogue : List ℕ) (room : ℕ)
         edition = eqb-true (editionIn f) 1 (not-false _ (a2 .0));
         cabinets = eqb-true (cabinetIn f) cabinet (not-false _ (a3 .0));
         lines = eqb-true (lineIn f) line (not-false _ (a4 .0));
+        plated = neither (blank (cabinetIn f) (lineIn f)) (blank cabinet line) (a18 .0) .1;
         some-tasks = tasks .0;
         few-tasks = tasks .1;
         few-words = leb-true (wordsIn f) mostWords (counts .1);
@@ -75,6 +79,7 @@ module _ (f : List ℕ) (cabinet line : ℕ) (catalogue : List ℕ) (room : ℕ)
       none-done (readAsks f cabinet line catalogue room)
       (le-ltb (length f) shortest (l .long)
       and ap not (eq-eqb (editionIn f) 1 (l .edition))
+      and (rw (l .cabinets, l .lines, l .plated))
       and ap not (eq-eqb (cabinetIn f) cabinet (l .cabinets))
       and ap not (eq-eqb (lineIn f) line (l .lines))
       and (rw (le-leb 1 (tasksIn f) (l .some-tasks), le-leb (tasksIn f) mostTasks (l .few-tasks), le-leb (wordsIn f) mostWords (l .few-words)))
@@ -90,3 +95,10 @@ module _ (f : List ℕ) (cabinet line : ℕ) (catalogue : List ℕ) (room : ℕ)
   -- One cabinet, one file: a file whose cabinet or line is not the one on the plate is never loaded.
   pub one-cabinet : readOutcome f cabinet line catalogue room ≡ Done → (cabinetIn f ≡ cabinet) × (lineIn f ≡ line)
   one-cabinet e = let l = read-says e in (l .cabinets, l .lines)
+
+  -- No file is loaded for cabinet 0 or line 0, and none that says either.
+  pub not-blank : readOutcome f cabinet line catalogue room ≡ Done → ((1 ≤ cabinet) × (1 ≤ line)) × ((1 ≤ cabinetIn f) × (1 ≤ lineIn f))
+  not-blank e =
+      let l = read-says e in
+      let p = plate-says cabinet line (l .plated) in
+      (p, rw (l .cabinets, l .lines) p)

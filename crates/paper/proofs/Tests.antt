@@ -1,6 +1,6 @@
--- What a test says where it is true: its two halves, its two bounds, each k that it looks at.
+-- What a test says where it is true or false: its two halves, its two bounds, each k that it looks at.
 use mathlib.Core.Path.{_≡_, refl, sym, _∙_}
-use mathlib.Core.Bool.{Bool, true, false, _&&_, and-eq-true-iff, true≢false}
+use mathlib.Core.Bool.{Bool, true, false, _&&_, _||_, and-eq-true-iff, true≢false}
 use mathlib.Core.Logic.{by-cases}
 use Prim.Native.Nat.{ℕ, zero, suc, _≤_, _<_}
 use native.Mathlib.Omega.{arith}
@@ -13,9 +13,14 @@ use Rattle.paper.specs.Vocabulary.{every}
 pub never : (b : Bool) → b ≡ true → b ≡ false → ⊥
 never b e f = true≢false (sym e ∙ f)
 
--- the two halves of a test that is true
+-- the two halves of an `and` that is true,
 pub both : (a b : Bool) → (a && b) ≡ true → (a ≡ true) × (b ≡ true)
 both a b e = and-eq-true-iff a b .0 e
+
+-- and of an `or` that is false
+pub neither : (a b : Bool) → (a || b) ≡ false → (a ≡ false) × (b ≡ false)
+neither true b e = absurd (true≢false e)
+neither false b e = (refl, e)
 
 -- a chain of facts, each beside all that follow
 infixr 3 _and_

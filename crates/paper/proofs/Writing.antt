@@ -1,7 +1,7 @@
 -- Writing a table: what is known of a table that the writer takes, and that nothing else keeps a table from being written.
 use Prim.{tt}
 use mathlib.Core.Path.{_≡_, ap}
-use mathlib.Core.Bool.{true, not}
+use mathlib.Core.Bool.{true, false, not}
 use mathlib.Core.List.{List}
 use Prim.Native.Nat.{ℕ, _≤_}
 use borrow.Author.Tests.{leb-true, ltb-false, not-false, le-leb, le-ltb}
@@ -10,29 +10,32 @@ use lib.ListN.{length}
 use Rattle.paper.specs.Numbers.{mostTasks, mostWords, mostCabinet, tasksInRange, countsInRange, recordsInRange, assignmentHolds}
 use Rattle.paper.specs.File.{fileLength}
 use Rattle.paper.specs.Regions.{allRegionsHold}
-use Rattle.paper.specs.Refusals.{writeAsks}
+use Rattle.paper.specs.Refusals.{blank, writeAsks}
 use Rattle.paper.specs.Answers.{writeOutcome}
 use Rattle.paper.specs.declared.Outcome.the-variants.{Done}
 use Rattle.paper.specs.declared.Table.{Table}
 use Rattle.paper.proofs.Tests.{both, _and_, within}
 use Rattle.paper.proofs.Asks.{done-none, none-done}
+use Rattle.paper.proofs.Plates.{plate-says}
 
--- What is known of a table that is written for a cabinet, with its region words and a catalogue, into room for so many bytes.
-pub record Taken (t : Table) (cabinet : ℕ) (own catalogue : List ℕ) (room : ℕ) : Type 0 where
+-- What is known of a table that is written for a cabinet and a line, with its region words and a catalogue, into room for so many bytes.
+pub record Taken (t : Table) (cabinet line : ℕ) (own catalogue : List ℕ) (room : ℕ) : Type 0 where
   pub some-tasks : 1 ≤ t .n
   pub few-tasks : t .n ≤ mostTasks
   pub few-words : length own ≤ mostWords
+  pub plated : blank cabinet line ≡ false
   pub cabinets : cabinet ≤ mostCabinet
   pub ranges : recordsInRange (t .records) (t .n) ≡ true
   pub assignment : assignmentHolds (t .records) (t .n) ≡ true
   pub regions : allRegionsHold (t .records) (t .n) own catalogue ≡ true
   pub fits : fileLength (t .n) (length own) ≤ room
 
-module _ (t : Table) (cabinet : ℕ) (own catalogue : List ℕ) (room : ℕ) where
-  pub write-says : writeOutcome t cabinet own catalogue room ≡ Done → Taken t cabinet own catalogue room
+module _ (t : Table) (cabinet line : ℕ) (own catalogue : List ℕ) (room : ℕ) where
+  pub write-says : writeOutcome t cabinet line own catalogue room ≡ Done → Taken t cabinet line own catalogue room
   write-says e =
-      let a5 = done-none (writeAsks t cabinet own catalogue room) e in
-      let a9 = a5 .1 in
+      let a5 = done-none (writeAsks t cabinet line own catalogue room) e in
+      let a18 = a5 .1 in
+      let a9 = a18 .1 in
       let a10 = a9 .1 in
       let a11 = a10 .1 in
       let counts = both (tasksInRange (t .n)) (leb (length own) mostWords) (not-false (countsInRange (t .n) (length own)) (a5 .0)) in
@@ -42,6 +45,7 @@ module _ (t : Table) (cabinet : ℕ) (own catalogue : List ℕ) (room : ℕ) whe
         some-tasks = tasks .0;
         few-tasks = tasks .1;
         few-words = leb-true (length own) mostWords (counts .1);
+        plated = a18 .0;
         cabinets = leb-true cabinet mostCabinet (numbers .0);
         ranges = numbers .1;
         assignment = not-false _ (a10 .0);
@@ -49,12 +53,17 @@ module _ (t : Table) (cabinet : ℕ) (own catalogue : List ℕ) (room : ℕ) whe
         fits = ltb-false room (fileLength (t .n) (length own)) (a11 .1 .0);
       }
 
-  pub write-done : Taken t cabinet own catalogue room → writeOutcome t cabinet own catalogue room ≡ Done
+  pub write-done : Taken t cabinet line own catalogue room → writeOutcome t cabinet line own catalogue room ≡ Done
   write-done w =
-      none-done (writeAsks t cabinet own catalogue room)
+      none-done (writeAsks t cabinet line own catalogue room)
       ((rw (le-leb 1 (t .n) (w .some-tasks), le-leb (t .n) mostTasks (w .few-tasks), le-leb (length own) mostWords (w .few-words)))
+      and w .plated
       and (rw (le-leb cabinet mostCabinet (w .cabinets)) (ap not (w .ranges)))
       and ap not (w .assignment)
       and ap not (w .regions)
       and le-ltb room (fileLength (t .n) (length own)) (w .fits)
       and tt)
+
+  -- No file is written for cabinet 0 or line 0.
+  pub not-blank : writeOutcome t cabinet line own catalogue room ≡ Done → (1 ≤ cabinet) × (1 ≤ line)
+  not-blank e = plate-says cabinet line (write-says e .plated)

@@ -56,8 +56,8 @@ abbrev pub readOut : List ℕ → ℕ → ℕ → List ℕ → List ℕ → List
 readOut f cabinet line catalogue out = wordsFor (readOutcome f cabinet line catalogue (length out)) f out
 
 -- Writing: the file's length; and exactly its bytes at the front of the output
-abbrev pub writeOutcome : Table → ℕ → List ℕ → List ℕ → ℕ → Outcome
-writeOutcome t cabinet own catalogue room = firstOf (writeAsks t cabinet own catalogue room)
+abbrev pub writeOutcome : Table → ℕ → ℕ → List ℕ → List ℕ → ℕ → Outcome
+writeOutcome t cabinet line own catalogue room = firstOf (writeAsks t cabinet line own catalogue room)
 
 abbrev pub lengthFor : Outcome → ℕ → WriteAnswer
 lengthFor Done size = Write.File size
@@ -67,13 +67,13 @@ abbrev pub fileFor : Outcome → Table → ℕ → ℕ → List ℕ → List ℕ
 fileFor o t cabinet line own out =
     whenDone o (fileOf t cabinet line own ++ drop (fileLength (t .n) (length own)) out) out
 
-abbrev pub writeAnswer : Table → ℕ → List ℕ → List ℕ → List ℕ → WriteAnswer
-writeAnswer t cabinet own catalogue out =
-    lengthFor (writeOutcome t cabinet own catalogue (length out)) (fileLength (t .n) (length own))
+abbrev pub writeAnswer : Table → ℕ → ℕ → List ℕ → List ℕ → List ℕ → WriteAnswer
+writeAnswer t cabinet line own catalogue out =
+    lengthFor (writeOutcome t cabinet line own catalogue (length out)) (fileLength (t .n) (length own))
 
 abbrev pub writeOut : Table → ℕ → ℕ → List ℕ → List ℕ → List ℕ → List ℕ
 writeOut t cabinet line own catalogue out =
-    fileFor (writeOutcome t cabinet own catalogue (length out)) t cabinet line own out
+    fileFor (writeOutcome t cabinet line own catalogue (length out)) t cabinet line own out
 
 -- Response times: for each task its R, or beyond
 abbrev pub noTime : Response

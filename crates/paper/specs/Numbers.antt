@@ -28,7 +28,7 @@ mostName = 127
 abbrev pub horizon : ℕ
 horizon = 1_000_000
 
--- cabinet, line: 24 bits, 16 bits. A line has 16 bits by its type; a cabinet is held in 32, and writing asks.
+-- cabinet, line: 24 bits, 16 bits. A line has 16 bits by its type; a cabinet is held in 32, and writing asks. A 0 is refused (document 02, item 1).
 abbrev pub mostCabinet : ℕ
 mostCabinet = 2 ^ 24 - 1
 

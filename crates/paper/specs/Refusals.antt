@@ -1,6 +1,6 @@
--- Document 01, "Numbers a turned-away call returns": for each call the numbers it asks, in the order asked.
+-- Document 01, "Numbers a turned-away call returns", with 18 of document 02, item 1: for each call the numbers it asks, in the order asked.
 use Prim.Native.Nat.{ℕ, _+_, _-_}
-use mathlib.Core.Bool.{Bool, not, _&&_, cond}
+use mathlib.Core.Bool.{Bool, not, _&&_, _||_, cond}
 use mathlib.Core.List.{List, [], _∷_, _++_}
 use lib.Dec.{leb, ltb, eqb}
 use lib.ListN.{length}
@@ -14,7 +14,7 @@ use Rattle.paper.specs.Rows.{rowSize, rowHolds}
 use Rattle.paper.specs.declared.Record.{Record}
 use Rattle.paper.specs.declared.Table.{Table}
 use Rattle.paper.specs.declared.Refusal.{Refusal}
-use Rattle.paper.specs.declared.Refusal.the-variants.{Short, WrongEdition, WrongCabinet, WrongLine, WrongCounts, WrongLength, WrongSeal, SpareBitSet, OutOfRange, BadAssignment, BadRegions, NoRoom, NoSuchPart, Unassigned, DeadlineAbovePeriod, ToleranceBelowZero, BadRow}
+use Rattle.paper.specs.declared.Refusal.the-variants.{Short, WrongEdition, WrongCabinet, WrongLine, WrongCounts, WrongLength, WrongSeal, SpareBitSet, OutOfRange, BadAssignment, BadRegions, NoRoom, NoSuchPart, Unassigned, DeadlineAbovePeriod, ToleranceBelowZero, BadRow, BlankPlate}
 use Rattle.paper.specs.declared.Outcome.{Outcome}
 use Rattle.paper.specs.declared.Outcome.the-variants.{Done, Refused}
 
@@ -37,6 +37,7 @@ numberOf Unassigned = 14
 numberOf DeadlineAbovePeriod = 15
 numberOf (ToleranceBelowZero k) = 16
 numberOf BadRow = 17
+numberOf BlankPlate = 18
 
 abbrev pub recordOf : Refusal → ℕ
 recordOf Short = 0
@@ -56,11 +57,13 @@ recordOf Unassigned = 0
 recordOf DeadlineAbovePeriod = 0
 recordOf (ToleranceBelowZero k) = k
 recordOf BadRow = 0
+recordOf BlankPlate = 0
 
 abbrev pub Asks : Type 0
 Asks = List (Refusal × Bool)
 
--- The lowest applicable number wins: each list stands in the order asked, which is rising but for the regions of a record (5, 13, 11), and its first ask that applies is the refusal
+-- Each list stands in the order asked, and its first ask that applies is the refusal. Where the order rises that is the rule of document 01: the lowest applicable number wins.
+-- It rises but for the regions of a record (5, 13, 11), and but for 18, the exception of document 02, item 1: asked straight after 2 when reading, straight after 5 when writing.
 abbrev pub firstOf : Asks → Outcome
 firstOf [] = Done
 firstOf (ask ∷ asks) = cond (ask .1) (Refused (ask .0)) (firstOf asks)
@@ -71,6 +74,10 @@ wrongTasks t = (WrongCounts, not (tasksInRange (t .n)))
 
 abbrev pub wrongCounts : ℕ → ℕ → Refusal × Bool
 wrongCounts n m = (WrongCounts, not (countsInRange n m))
+
+-- cabinet 0 or line 0 (document 02, item 1)
+abbrev pub blank : ℕ → ℕ → Bool
+blank cabinet line = eqb cabinet 0 || eqb line 0
 
 -- C, T, D, name number outside its range
 abbrev pub outOfRange : List Record → ℕ → Refusal × Bool
@@ -107,11 +114,12 @@ belowZeroAt record' = (ToleranceBelowZero record', ltb 0 record')
 abbrev pub toleranceBelowZero : Table → Refusal × Bool
 toleranceBelowZero t = belowZeroAt (lowestBelowZero (tasksOf (t .records) (t .n)) (assigned (t .records)))
 
--- Reading asks 1 to 11 of the file; 3 and 4 compare it with the plate, 11 looks into the lent catalogue too
+-- Reading asks 1, 2, 18, 3 to 11 of the file; 18 asks the plate too, 3 and 4 compare the two, 11 looks into the lent catalogue too
 abbrev pub fileAsks : List ℕ → ℕ → ℕ → List ℕ → Asks
 fileAsks f cabinet line catalogue =
     (Short, ltb (length f) shortest) ∷
     (WrongEdition, not (eqb (editionIn f) 1)) ∷
+    (BlankPlate, blank (cabinetIn f) (lineIn f) || blank cabinet line) ∷
     (WrongCabinet, not (eqb (cabinetIn f) cabinet)) ∷
     (WrongLine, not (eqb (lineIn f) line)) ∷
     wrongCounts (tasksIn f) (wordsIn f) ∷
@@ -122,18 +130,19 @@ fileAsks f cabinet line catalogue =
     badAssignment (recordsIn f (tasksIn f)) (tasksIn f) ∷
     badRegions (recordsIn f (tasksIn f)) (tasksIn f) (regionWords f (tasksIn f) (wordsIn f)) catalogue ∷ []
 
--- Handing back a record reads the file first, so asks 1 to 11, then 13
+-- Handing back a record reads the file first, so asks 1, 2, 18, 3 to 11, then 13
 abbrev pub recordAsks : List ℕ → ℕ → ℕ → List ℕ → ℕ → Asks
 recordAsks f cabinet line catalogue number = fileAsks f cabinet line catalogue ++ (noSuchRecord number (tasksIn f) ∷ [])
 
--- Reading asks 1 to 12
+-- Reading asks 1, 2, 18, 3 to 12
 abbrev pub readAsks : List ℕ → ℕ → ℕ → List ℕ → ℕ → Asks
 readAsks f cabinet line catalogue room = fileAsks f cabinet line catalogue ++ (noRoom room (wordsIn f) ∷ [])
 
--- Writing asks 5, 9, 10, 11, 12
-abbrev pub writeAsks : Table → ℕ → List ℕ → List ℕ → ℕ → Asks
-writeAsks t cabinet own catalogue room =
+-- Writing asks 5, 18, 9, 10, 11, 12; there is no file yet, so 18 asks the plate alone
+abbrev pub writeAsks : Table → ℕ → ℕ → List ℕ → List ℕ → ℕ → Asks
+writeAsks t cabinet line own catalogue room =
     wrongCounts (t .n) (length own) ∷
+    (BlankPlate, blank cabinet line) ∷
     (OutOfRange, not (leb cabinet mostCabinet && recordsInRange (t .records) (t .n))) ∷
     badAssignment (t .records) (t .n) ∷
     badRegions (t .records) (t .n) own catalogue ∷

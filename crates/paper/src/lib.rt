@@ -1,7 +1,8 @@
-// The types of document 01. What each call answers with them is defined in specs/.
+// The types of document 01, with what document 02 adds. What each call answers with them is defined in specs/.
 
 // Cabinet number, 24 bits, and line number, 16 bits: two types, so that one can't stand for the other.
-// A cabinet above 24 bits is refused when writing (9) and matches no file when reading (3).
+// A cabinet above 24 bits is refused when writing (9) and matches no file when reading (3). No file is read or written
+// for cabinet 0 or line 0, and none is read that says either (18, asked before 3 and 9).
 pub struct Cabinet(pub u32);
 
 pub struct Line(pub u16);
@@ -66,6 +67,7 @@ pub enum Refusal {
     // Holds the number of the lowest record whose tolerance is below zero.
     ToleranceBelowZero(usize),
     BadRow,
+    BlankPlate,
 }
 
 pub enum Outcome {

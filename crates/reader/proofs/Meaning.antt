@@ -1,4 +1,4 @@
--- What passing asks 1 to 11 means, as a record handed back wants it. What reading means is in paper (Reading).
+-- What passing asks 1, 2, 18, 3 to 11 means, as a record handed back wants it. What reading means is in paper (Reading).
 use mathlib.Core.Path.{_≡_, _∙_}
 use mathlib.Core.List.{List, [], _∷_}
 use Prim.Native.Nat.{ℕ}

@@ -1,6 +1,6 @@
 -- The stages of reading: what each asks is the paper's list, and together they are all of it and the answer.
 use mathlib.Core.Path.{_≡_, refl, sym, ap, _∙_}
-use mathlib.Core.Bool.{Bool, true, false, not}
+use mathlib.Core.Bool.{Bool, true, false, not, _||_}
 use mathlib.Core.List.{List, [], _∷_, _++_}
 use Prim.Native.Nat.{ℕ, _-_, _≤_}
 use native.Mathlib.Omega.{arith}
@@ -9,7 +9,7 @@ use lib.Dec.{eqb}
 use lib.ListN.{length, drop}
 use Rattle.paper.specs.Numbers.{mostWords}
 use Rattle.paper.specs.File.{tasksIn, wordsIn, fileLength, sealed, spareClear, recordsIn, regionWords}
-use Rattle.paper.specs.Refusals.{Asks, firstOf, outOfRange, badAssignment, badRegions, noRoom, fileAsks, readAsks}
+use Rattle.paper.specs.Refusals.{Asks, firstOf, blank, outOfRange, badAssignment, badRegions, noRoom, fileAsks, readAsks}
 use Rattle.paper.specs.Answers.{noTable, tableFor, wordsFor, readAnswer, readOut}
 use Rattle.paper.specs.declared.Record.{Record}
 use Rattle.paper.specs.declared.Table.{Table}
@@ -35,6 +35,11 @@ agrees {x} wanted e h = rw (← e, eq-eqb x wanted h)
 pub found : {x y b : Bool} → x ≡ y → not x ≡ b → not y ≡ b
 found e h = rw (← e) h
 
+-- Two numbers of the file were found blank or not, and so was the plate.
+pub either-blank : {x y cabinet line : ℕ} {a b plate : Bool} → x ≡ cabinet → y ≡ line → a ≡ blank x y → b ≡ plate
+    → (blank cabinet line || plate) ≡ (a || b)
+either-blank c l e f = rw (e, f, c, l)
+
 -- Asks 7 to 12, of what was unpacked.
 abbrev pub unpackedAsks : List ℕ → ℕ → ℕ → List Record → List ℕ → List ℕ → ℕ → Asks
 unpackedAsks f n m rs own catalogue room =
@@ -53,7 +58,7 @@ own-few {f} {n} {m} u = rw (u .regions, words-length f n m) (u .sized .words)
 -- Once the head passes, the counts and the length fit.
 pub head-says : (f : List ℕ) (cabinet line : ℕ) → firstOf (headAsks f cabinet line) ≡ Done → Sized f (tasksIn f) (wordsIn f)
 head-says f cabinet line e =
-    let asks = done-none (headAsks f cabinet line) e .1 .1 .1 .1 in
+    let asks = done-none (headAsks f cabinet line) e .1 .1 .1 .1 .1 in
     let counts = counts-say (tasksIn f) (wordsIn f) (not-false _ (asks .0)) in
     record {
       tasks = counts .tasks;
@@ -109,7 +114,7 @@ any-room f cabinet line catalogue room h = go (firstOf (fileAsks f cabinet line 
     go : (o : Outcome) → firstOf (fileAsks f cabinet line catalogue) ≡ o
         → firstOf (readAsks f cabinet line catalogue room) ≡ firstOf (fileAsks f cabinet line catalogue)
     go Done e =
-        let head = first-done (headAsks f cabinet line) (drop 6 (fileAsks f cabinet line catalogue)) e .0 in
+        let head = first-done (headAsks f cabinet line) (drop 7 (fileAsks f cabinet line catalogue)) e .0 in
         let few = head-says f cabinet line head .words in
         first-passed (fileAsks f cabinet line catalogue) (noRoom room (wordsIn f) ∷ []) e ∙ rw (le-ltb room (wordsIn f) (omega arith)) (sym e)
     go (Refused r) e = first-refused (fileAsks f cabinet line catalogue) (noRoom room (wordsIn f) ∷ []) r e ∙ sym e

@@ -8,13 +8,13 @@ use Rattle.paper.specs.Refusals.{Asks, fileAsks, readAsks}
 use Rattle.paper.specs.declared.Record.{Record}
 use Rattle.unpack.specs.Unpack.{Sized}
 
--- asks 1 to 6, in which no catalogue plays a part
+-- asks 1, 2, 18, 3 to 6, in which no catalogue plays a part
 abbrev pub headAsks : List ℕ → ℕ → ℕ → Asks
-headAsks f cabinet line = take 6 (fileAsks f cabinet line [])
+headAsks f cabinet line = take 7 (fileAsks f cabinet line [])
 
 -- asks 7 to 12, in which the plate plays no part
 abbrev pub bodyAsks : List ℕ → List ℕ → ℕ → Asks
-bodyAsks f catalogue room = drop 6 (readAsks f 0 0 catalogue room)
+bodyAsks f catalogue room = drop 7 (readAsks f 0 0 catalogue room)
 
 -- what was unpacked of the file f: its counts, its records and its own region words
 pub record Unpacked (f : List ℕ) (n m : ℕ) (rs : List Record) (own : List ℕ) : Type 0 where

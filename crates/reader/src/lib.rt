@@ -16,7 +16,7 @@ use paper::ReadAnswer;
 use paper::Record;
 use paper::Refusal;
 
-// Asks 1 to 6.
+// Asks 1, 2, 18, 3 to 6.
 fn head(file: &[u8], cabinet: Cabinet, line: Line) -> Outcome
     ensures { λ x. ⌜ x ≡ firstOf (headAsks (now (file .entry)) (cabinet .0) (line .0)) ⌝ }
 {
@@ -28,11 +28,18 @@ fn head(file: &[u8], cabinet: Cabinet, line: Line) -> Outcome
         return Outcome::Refused(Refusal::WrongEdition);
     }
     let its_cabinet = layout::cabinet_of(file);
-    if its_cabinet != cabinet.0 as u64 {
+    let its_line = layout::line_of(file);
+    let plate_cabinet = cabinet.0 as u64;
+    let plate_line = line.0 as u64;
+    let blank = checks::is_blank(its_cabinet, its_line)
+        | checks::is_blank(plate_cabinet, plate_line);
+    if blank {
+        return Outcome::Refused(Refusal::BlankPlate);
+    }
+    if its_cabinet != plate_cabinet {
         return Outcome::Refused(Refusal::WrongCabinet);
     }
-    let its_line = layout::line_of(file);
-    if its_line != line.0 as u64 {
+    if its_line != plate_line {
         return Outcome::Refused(Refusal::WrongLine);
     }
     let n = layout::task_count(file);
@@ -148,7 +155,7 @@ pub fn read(
     }
 }
 
-// Asks 1 to 11. There is room for the words of any file here, so that 12 is never the answer.
+// Asks 1, 2, 18, 3 to 11. There is room for the words of any file here, so that 12 is never the answer.
 pub fn file_outcome(file: &[u8], cabinet: Cabinet, line: Line, catalogue: &[u32]) -> Outcome
     ensures { λ x. ⌜ x ≡ firstOf (fileAsks (now (file .entry)) (cabinet .0) (line .0) (now (catalogue .entry))) ⌝ }
 {

@@ -58,7 +58,7 @@ module _ (t : Table) (cabinet line : ℕ) (own f : List ℕ) (i : IsFile t cabin
             (λ k l. eq-eqb _ _ (ap (λ (vs : List ℕ). getD vs 9 0) (i .has-records k l))),
       )
 
-  pub reads : (catalogue : List ℕ) (room room' : ℕ) → Taken t cabinet own catalogue room → length own ≤ room' → readOutcome f cabinet line catalogue room' ≡ Done
+  pub reads : (catalogue : List ℕ) (room room' : ℕ) → Taken t cabinet line own catalogue room → length own ≤ room' → readOutcome f cabinet line catalogue room' ≡ Done
   reads catalogue room room' w l =
       let c = w .some-tasks in
       let a : (k : ℕ) → k < t .n → rec (recordsIn f (t .n)) k ≡ rec (t .records) k =
@@ -69,6 +69,7 @@ module _ (t : Table) (cabinet line : ℕ) (own f : List ℕ) (i : IsFile t cabin
         edition = said 0;
         cabinets = said 2;
         lines = said 3;
+        plated = w .plated;
         some-tasks = rw tasks-back (w .some-tasks);
         few-tasks = rw tasks-back (w .few-tasks);
         few-words = rw count-back (w .few-words);

@@ -27,7 +27,7 @@ wrote Done size given e = record { done = refl; size-is = cc }
 wrote (Refused r) size given e = let z : _≡_ {A = ℕ} 0 1 = cc in absurd (omega arith)
 
 -- the bytes that the writer wrote, up to the length that it answered, are the file
-file-kept : (t : Table) (cabinet line : ℕ) (own catalogue out : List ℕ) (size : ℕ) → Wrote (writeOutcome t cabinet own catalogue (length out)) size (fileLength (t .n) (length own))
+file-kept : (t : Table) (cabinet line : ℕ) (own catalogue out : List ℕ) (size : ℕ) → Wrote (writeOutcome t cabinet line own catalogue (length out)) size (fileLength (t .n) (length own))
     → take size (writeOut t cabinet line own catalogue out) ≡ fileOf t cabinet line own
 file-kept t cabinet line own catalogue out size w =
     ap (λ (o : Outcome). take size (fileFor o t cabinet line own out)) (w .done)
@@ -55,12 +55,12 @@ module _ (f : List ℕ) (cabinet line : ℕ) (catalogue words : List ℕ) (done 
 -- Written, then read: what the writer wrote, up to the length that it answered, reads as the same tasks, with zero records past n,
 -- and the reader, lent enough words, hands out the same region words.
 pub write-read : (t : Table) (cabinet line : ℕ) (own catalogue out words : List ℕ) (size : ℕ) → line < 2 ^ 16 → length own ≤ length words
-    → writeAnswer t cabinet own catalogue out ≡ Write.File size
+    → writeAnswer t cabinet line own catalogue out ≡ Write.File size
     → (readAnswer (take size (writeOut t cabinet line own catalogue out)) cabinet line catalogue words ≡ record { outcome = Done; table = zeroPast t; words = length own })
     × (readOut (take size (writeOut t cabinet line own catalogue out)) cabinet line catalogue words ≡ own ++ drop (length own) words)
 write-read t cabinet line own catalogue out words size l h e =
     let f = fileOf t cabinet line own in
-    let w = wrote (writeOutcome t cabinet own catalogue (length out)) size (fileLength (t .n) (length own)) e in
+    let w = wrote (writeOutcome t cabinet line own catalogue (length out)) size (fileLength (t .n) (length own)) e in
     let k = file-kept t cabinet line own catalogue out size w in
     let b = written-read t cabinet line own catalogue (length out) l (w .done) in
     let d = b .done (length words) h in
@@ -76,7 +76,7 @@ write-read t cabinet line own catalogue out words size l h e =
 -- same catalogue into room for the file, give the file's length and its bytes; the rest of what was lent stays.
 pub read-write : (f : List ℕ) (cabinet line : ℕ) (catalogue words out : List ℕ) → Bytes f → length f ≤ length out
     → readAnswer f cabinet line catalogue words .outcome ≡ Done
-    → (writeAnswer (readAnswer f cabinet line catalogue words .table) cabinet (handed f cabinet line catalogue words) catalogue out ≡ Write.File (length f))
+    → (writeAnswer (readAnswer f cabinet line catalogue words .table) cabinet line (handed f cabinet line catalogue words) catalogue out ≡ Write.File (length f))
     × (writeOut (readAnswer f cabinet line catalogue words .table) cabinet line (handed f cabinet line catalogue words) catalogue out ≡ f ++ drop (length f) out)
 read-write f cabinet line catalogue words out b h e =
     let t = tableIn f in
@@ -86,8 +86,8 @@ read-write f cabinet line catalogue words out b h e =
     let d = read-taken f cabinet line catalogue (length words) (length out) e h in
     let s = read-written f cabinet line catalogue (length words) b e in
     let z : fileLength (tasksIn f) (length (regionWords f (tasksIn f) (wordsIn f))) ≡ length f = sym (file-length t cabinet line own) ∙ ap length s in (
-      ap (λ (x : Table). writeAnswer x cabinet (handed f cabinet line catalogue words) catalogue out) a
-          ∙ ap (λ (x : List ℕ). writeAnswer t cabinet x catalogue out) w
+      ap (λ (x : Table). writeAnswer x cabinet line (handed f cabinet line catalogue words) catalogue out) a
+          ∙ ap (λ (x : List ℕ). writeAnswer t cabinet line x catalogue out) w
           ∙ ap (λ (o : Outcome). lengthFor o (fileLength (tasksIn f) (length own))) d
           ∙ ap (λ (x : ℕ). Write.File x) z,
       ap (λ (x : Table). writeOut x cabinet line (handed f cabinet line catalogue words) catalogue out) a

@@ -99,7 +99,7 @@ record-fits r e v d =
     and omega arith
     and tt
 
-pub taken-fits : (t : Table) (cabinet line : ℕ) (own catalogue : List ℕ) (room : ℕ) → Taken t cabinet own catalogue room → line < 2 ^ 16 → Fits t cabinet line own
+pub taken-fits : (t : Table) (cabinet line : ℕ) (own catalogue : List ℕ) (room : ℕ) → Taken t cabinet line own catalogue room → line < 2 ^ 16 → Fits t cabinet line own
 taken-fits t cabinet line own catalogue room w l =
     let h = regions-say (t .n) (t .records) own catalogue (w .regions) in
     record {

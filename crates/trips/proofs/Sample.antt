@@ -24,7 +24,7 @@ jobs = record {
 abbrev words : List ℕ
 words = 2 ∷ 3 ∷ 1 ∷ []
 
-pub sample-taken : writeOutcome jobs 70002 words [] 42 ≡ Done
+pub sample-taken : writeOutcome jobs 70002 12 words [] 42 ≡ Done
 unfolding every sumTo eachOnce thresholdsHold regionsHold allRegionsHold
 sample-taken = refl
 

@@ -1,4 +1,5 @@
 -- Both round trips of a cabinet file, on the definitions alone. Calls.antt has the same as answers of the calls.
+-- Each supposes that the writer or the reader is done, so both are about plates without a zero (`not-blank` in paper, Writing and Reading).
 use mathlib.Core.Path.{_≡_, sym, ap, _∙_}
 use mathlib.Core.Logic.{by-cases}
 use mathlib.Core.List.{List}
@@ -59,9 +60,9 @@ pub record ReadBack (t : Table) (cabinet line : ℕ) (own catalogue f : List ℕ
   pub words : regionWords f (tasksIn f) (wordsIn f) ≡ own
 
 pub written-read : (t : Table) (cabinet line : ℕ) (own catalogue : List ℕ) (room : ℕ) → line < 2 ^ 16
-    → writeOutcome t cabinet own catalogue room ≡ Done → ReadBack t cabinet line own catalogue (fileOf t cabinet line own)
+    → writeOutcome t cabinet line own catalogue room ≡ Done → ReadBack t cabinet line own catalogue (fileOf t cabinet line own)
 written-read t cabinet line own catalogue room l e =
-    let w = write-says t cabinet own catalogue room e in
+    let w = write-says t cabinet line own catalogue room e in
     let i = made t cabinet line own (taken-fits t cabinet line own catalogue room w l) in
     record {
       done = λ room' h. reads t cabinet line own (fileOf t cabinet line own) i catalogue room room' w h;
@@ -72,16 +73,17 @@ written-read t cabinet line own catalogue room l e =
 -- A file that reads is taken by the writer, with its own table, plate and region words and the same catalogue,
 pub read-taken : (f : List ℕ) (cabinet line : ℕ) (catalogue : List ℕ) (room room' : ℕ)
     → readOutcome f cabinet line catalogue room ≡ Done → length f ≤ room'
-    → writeOutcome (tableIn f) cabinet (regionWords f (tasksIn f) (wordsIn f)) catalogue room' ≡ Done
+    → writeOutcome (tableIn f) cabinet line (regionWords f (tasksIn f) (wordsIn f)) catalogue room' ≡ Done
 read-taken f cabinet line catalogue room room' e h =
     let r = read-says f cabinet line catalogue room e in
     let c = words-count f (tasksIn f) (wordsIn f) in
     let x : cabinet < 2 ^ 24 = rw (r .cabinets) at (field-lt f 8 24) in
-    write-done (tableIn f) cabinet (regionWords f (tasksIn f) (wordsIn f)) catalogue room'
+    write-done (tableIn f) cabinet line (regionWords f (tasksIn f) (wordsIn f)) catalogue room'
     (record {
       some-tasks = r .some-tasks;
       few-tasks = r .few-tasks;
       few-words = rw c (r .few-words);
+      plated = r .plated;
       cabinets = omega arith;
       ranges = r .ranges;
       assignment = r .assignment;
@@ -97,7 +99,7 @@ read-written f cabinet line catalogue room b e =
     let t = tableIn f in
     let own = regionWords f (tasksIn f) (wordsIn f) in
     let r = read-says f cabinet line catalogue room e in
-    let w = write-says t cabinet own catalogue (length f) (read-taken f cabinet line catalogue room (length f) e (omega arith)) in
+    let w = write-says t cabinet line own catalogue (length f) (read-taken f cabinet line catalogue room (length f) e (omega arith)) in
     let x : line < 2 ^ 16 = rw (r .lines) at (field-lt f 32 16) in
     one-file t cabinet line own (fileOf t cabinet line own) f
     (made t cabinet line own (taken-fits t cabinet line own catalogue (length f) w x))

@@ -27,15 +27,26 @@ fn put_file(s: &mut [u8], t: Table, cabinet: Cabinet, line: Line, own: &[u32])
     seal::put_seal(s, end);
 }
 
-// What writing asks, in the paper's order. The checks behind the first look at n records and m words.
-fn outcome_of(t: Table, cabinet: Cabinet, own: &[u32], catalogue: &[u32], room: usize) -> Outcome
-    ensures { λ x. ⌜ x ≡ writeOutcome t (cabinet .0) (now (own .entry)) (now (catalogue .entry)) room ⌝ }
+// What writing asks, in the paper's order. 5 comes first: the checks behind 18 look at n records and m words.
+fn outcome_of(
+    t: Table,
+    cabinet: Cabinet,
+    line: Line,
+    own: &[u32],
+    catalogue: &[u32],
+    room: usize,
+) -> Outcome
+    ensures { λ x. ⌜ x ≡ writeOutcome t (cabinet .0) (line .0) (now (own .entry)) (now (catalogue .entry)) room ⌝ }
 {
     let n = t.n;
     let rs = t.records;
     let m = own.len();
     if !checks::counts_in_range(n, m) {
         return Outcome::Refused(Refusal::WrongCounts);
+    }
+    let blank = checks::is_blank(cabinet.0 as u64, line.0 as u64);
+    if blank {
+        return Outcome::Refused(Refusal::BlankPlate);
     }
     let in_range = (cabinet.0 <= paper::MOST_CABINET) & checks::records_in_range(rs, n);
     if !in_range {
@@ -62,11 +73,11 @@ pub fn write(
     catalogue: &[u32],
     out: &mut [u8],
 ) -> WriteAnswer
-    ensures { λ r. ⌜ r ≡ writeAnswer t (cabinet .0) (now (own .entry)) (now (catalogue .entry)) (now (out .entry)) ⌝ }
+    ensures { λ r. ⌜ r ≡ writeAnswer t (cabinet .0) (line .0) (now (own .entry)) (now (catalogue .entry)) (now (out .entry)) ⌝ }
     ensures { λ _. ⌜ now (out .exit) ≡ writeOut t (cabinet .0) (line .0) (now (own .entry)) (now (catalogue .entry)) (now (out .entry)) ⌝ }
 {
     let room = out.len();
-    let outcome = outcome_of(t, cabinet, own, catalogue, room);
+    let outcome = outcome_of(t, cabinet, line, own, catalogue, room);
     match outcome {
         Outcome::Refused(r) => WriteAnswer::Refused(r),
         Outcome::Done => {

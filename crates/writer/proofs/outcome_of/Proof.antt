@@ -4,40 +4,61 @@ use mathlib.Core.Bool.{not, _&&_}
 use native.Mathlib.Omega.{arith}
 use borrow.Author.Needs.{needs}
 use borrow.Author.Tests.{not-false, lt-ltb, le-ltb}
+use Prim.Native.Nat.{ℕ}
 use lib.Dec.{leb, ltb}
 use lib.ListN.{length, drop}
 use denote.Ref.{now}
 use Rattle.paper.specs.Numbers.{mostCabinet, recordsInRange}
 use Rattle.paper.specs.Refusals.{Asks, firstOf, writeAsks}
-use Rattle.paper.specs.declared.Refusal.the-variants.{WrongCounts, OutOfRange, BadAssignment, BadRegions, NoRoom}
+use Rattle.paper.specs.declared.Refusal.the-variants.{WrongCounts, BlankPlate, OutOfRange, BadAssignment, BadRegions, NoRoom}
 use Rattle.paper.specs.declared.Outcome.{Outcome}
 use Rattle.checks.proofs.Asks.{stops, goes-on}
 use Rattle.checks.proofs.Meaning.{Counts, counts-say}
 use Rattle.writer.proofs.outcome_of.Statement.{statement}
 use Rattle.writer.proofs.outcome_of.Tie as tie
 
+-- Where the counts had passed, seen from each later test.
+abbrev counted2 : tie.Else2 → tie.Else1
+counted2 c = c .before .before .before .before
+
+abbrev counted3 : tie.Else3 → tie.Else1
+counted3 c = counted2 (c .before .before .before)
+
+abbrev counted4 : tie.Else4 → tie.Else1
+counted4 c = counted3 (c .before .before)
+
+abbrev counted5 : tie.Else5 → tie.Else1
+counted5 c = counted4 (c .before .before)
+
 counts-here : (c : tie.Else1) → let a = c .before .before .before .before .before .args in Counts (a .t .n) (length (now (a .own)))
 counts-here c = counts-say _ _ (sym (c .before .counts-in-range .ensures) ∙ not-false _ (c .if1 .left))
 
 -- Behind each test the outcome is that of the asks after it.
 abbrev asks : tie.Else1 → Asks
-asks c = let a = c .before .before .before .before .before .args in writeAsks (a .t) (a .cabinet .0) (now (a .own)) (now (a .catalogue)) (a .room)
+asks c = let a = c .before .before .before .before .before .args in writeAsks (a .t) (a .cabinet .0) (a .line .0) (now (a .own)) (now (a .catalogue)) (a .room)
 
-counts-passed : (c : tie.Else1) {x : Outcome} → x ≡ firstOf (drop 1 (asks c)) → x ≡ firstOf (asks c)
+-- x is the outcome of all asks but the first k
+abbrev Left : tie.Else1 → ℕ → Outcome → Type 0
+Left c k x = x ≡ firstOf (drop k (asks c))
+
+counts-passed : (c : tie.Else1) {x : Outcome} → Left c 1 x → Left c 0 x
 counts-passed c = goes-on WrongCounts (ap not (sym (c .before .counts-in-range .ensures)) ∙ c .if1 .left)
 
-ranges-found : (c : tie.After-records-in-range) → let a = c .before .before .before .before .before .before .before .args in
+plate-passed : (c : tie.Else2) {x : Outcome} → Left (counted2 c) 2 x → Left (counted2 c) 0 x
+plate-passed c e = counts-passed (counted2 c) (goes-on BlankPlate (sym (c .before .is-blank .ensures) ∙ c .if2 .left) e)
+
+ranges-found : (c : tie.After-records-in-range) → let a = counted2 (c .before .before) .before .before .before .before .before .args in
     not (leb (a .cabinet .0) mostCabinet && recordsInRange (a .t .records) (a .t .n)) ≡ not (leb (a .cabinet .0) mostCabinet && c .records-in-range .result)
 ranges-found c = rw (c .records-in-range .ensures)
 
-ranges-passed : (c : tie.Else2) {x : Outcome} → let d = c .before .before .before in x ≡ firstOf (drop 2 (asks d)) → x ≡ firstOf (asks d)
-ranges-passed c e = counts-passed (c .before .before .before) (goes-on OutOfRange (ranges-found (c .before) ∙ c .if2 .left) e)
+ranges-passed : (c : tie.Else3) {x : Outcome} → Left (counted3 c) 3 x → Left (counted3 c) 0 x
+ranges-passed c e = plate-passed (c .before .before .before) (goes-on OutOfRange (ranges-found (c .before) ∙ c .if3 .left) e)
 
-assignment-passed : (c : tie.Else3) {x : Outcome} → let d = c .before .before .before .before .before in x ≡ firstOf (drop 3 (asks d)) → x ≡ firstOf (asks d)
-assignment-passed c e = ranges-passed (c .before .before) (goes-on BadAssignment (ap not (sym (c .before .assignment-holds .ensures)) ∙ c .if3 .left) e)
+assignment-passed : (c : tie.Else4) {x : Outcome} → Left (counted4 c) 4 x → Left (counted4 c) 0 x
+assignment-passed c e = ranges-passed (c .before .before) (goes-on BadAssignment (ap not (sym (c .before .assignment-holds .ensures)) ∙ c .if4 .left) e)
 
-regions-passed : (c : tie.Else4) {x : Outcome} → let d = c .before .before .before .before .before .before .before in x ≡ firstOf (drop 4 (asks d)) → x ≡ firstOf (asks d)
-regions-passed c e = assignment-passed (c .before .before) (goes-on BadRegions (ap not (sym (c .before .all-regions-hold .ensures)) ∙ c .if4 .left) e)
+regions-passed : (c : tie.Else5) {x : Outcome} → Left (counted5 c) 5 x → Left (counted5 c) 0 x
+regions-passed c e = assignment-passed (c .before .before) (goes-on BadRegions (ap not (sym (c .before .all-regions-hold .ensures)) ∙ c .if5 .left) e)
 
 counts-in-range-requires : tie.Need-counts-in-range-requires
 counts-in-range-requires c κs = search needs
@@ -45,32 +66,44 @@ counts-in-range-requires c κs = search needs
 returns : tie.Need-returns
 returns c = stops WrongCounts _ (ap not (sym (c .before .counts-in-range .ensures)) ∙ c .if1 .taken)
 
-records-in-range-requires : tie.Need-records-in-range-requires
-records-in-range-requires c κs = counts-here (c .before) .tasks
+cast-is-blank : tie.Need-cast-is-blank
+cast-is-blank c = search needs
+
+cast-is-blank-2 : tie.Need-cast-is-blank-2
+cast-is-blank-2 c = search needs
+
+is-blank-requires : tie.Need-is-blank-requires
+is-blank-requires c κs = search needs
 
 returns-2 : tie.Need-returns-2
-returns-2 c = counts-passed (c .before .before .before) (stops OutOfRange _ (ranges-found (c .before) ∙ c .if2 .taken))
+returns-2 c = counts-passed (c .before .before .before .before) (stops BlankPlate _ (sym (c .before .is-blank .ensures) ∙ c .if2 .taken))
 
-assignment-holds-requires : tie.Need-assignment-holds-requires
-assignment-holds-requires c κs = counts-here (c .before .before .before) .tasks
+records-in-range-requires : tie.Need-records-in-range-requires
+records-in-range-requires c κs = counts-here (counted2 (c .before)) .tasks
 
 returns-3 : tie.Need-returns-3
-returns-3 c = ranges-passed (c .before .before) (stops BadAssignment _ (ap not (sym (c .before .assignment-holds .ensures)) ∙ c .if3 .taken))
+returns-3 c = plate-passed (c .before .before .before) (stops OutOfRange _ (ranges-found (c .before) ∙ c .if3 .taken))
 
-all-regions-hold-requires : tie.Need-all-regions-hold-requires
-all-regions-hold-requires c κs = let h = counts-here (c .before .before .before .before .before) in (h .tasks, h .words)
+assignment-holds-requires : tie.Need-assignment-holds-requires
+assignment-holds-requires c κs = counts-here (counted3 c) .tasks
 
 returns-4 : tie.Need-returns-4
-returns-4 c = assignment-passed (c .before .before) (stops BadRegions _ (ap not (sym (c .before .all-regions-hold .ensures)) ∙ c .if4 .taken))
+returns-4 c = ranges-passed (c .before .before) (stops BadAssignment _ (ap not (sym (c .before .assignment-holds .ensures)) ∙ c .if4 .taken))
 
-file-length-requires : tie.Need-file-length-requires
-file-length-requires c κs = let h = counts-here (c .before .before .before .before .before .before .before) in (omega (arith, h .tasks), omega (arith, h .words))
+all-regions-hold-requires : tie.Need-all-regions-hold-requires
+all-regions-hold-requires c κs = let h = counts-here (counted4 c) in (h .tasks, h .words)
 
 returns-5 : tie.Need-returns-5
-returns-5 c = regions-passed (c .before .before) (stops NoRoom _ (ap (ltb _) (sym (c .before .file-length .ensures)) ∙ lt-ltb _ _ (c .if5 .taken)))
+returns-5 c = assignment-passed (c .before .before) (stops BadRegions _ (ap not (sym (c .before .all-regions-hold .ensures)) ∙ c .if5 .taken))
+
+file-length-requires : tie.Need-file-length-requires
+file-length-requires c κs = let h = counts-here (counted5 c) in (omega (arith, h .tasks), omega (arith, h .words))
 
 returns-6 : tie.Need-returns-6
-returns-6 c = regions-passed (c .before .before) (goes-on NoRoom (ap (ltb _) (sym (c .before .file-length .ensures)) ∙ le-ltb _ _ (c .if5 .left)) refl)
+returns-6 c = regions-passed (c .before .before) (stops NoRoom _ (ap (ltb _) (sym (c .before .file-length .ensures)) ∙ lt-ltb _ _ (c .if6 .taken)))
+
+returns-7 : tie.Need-returns-7
+returns-7 c = regions-passed (c .before .before) (goes-on NoRoom (ap (ltb _) (sym (c .before .file-length .ensures)) ∙ le-ltb _ _ (c .if6 .left)) refl)
 
 pub outcome-of-spec : {M : Type 1} → statement M
 outcome-of-spec =
@@ -78,12 +111,16 @@ outcome-of-spec =
     (tie.spec
     counts-in-range-requires
     returns
-    records-in-range-requires
+    cast-is-blank
+    cast-is-blank-2
+    is-blank-requires
     returns-2
-    assignment-holds-requires
+    records-in-range-requires
     returns-3
-    all-regions-hold-requires
+    assignment-holds-requires
     returns-4
-    file-length-requires
+    all-regions-hold-requires
     returns-5
-    returns-6)
+    file-length-requires
+    returns-6
+    returns-7)
