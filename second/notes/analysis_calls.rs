@@ -39,10 +39,10 @@ pub fn of_times(tally: &mut Tally, mut body: Body, answer: &Answer) -> Option<()
     let later_job = any(&|i, r| first_finish(&tasks, i).is_some_and(|f| f < r));
     tally.note("a later job is the worst", later_job);
     tally.note("a later job is the worst at n 9 to 15", later_job && many);
-    tally.note("blocked", any(&|i, _| analysis::blocking(&tasks, i) > 0));
+    tally.note("blocked", any(&|i, _| analysis::largest_blocker(&tasks, i) > 0));
     tally.note(
         "not blocked",
-        any(&|i, _| analysis::blocking(&tasks, i) == 0),
+        any(&|i, _| analysis::largest_blocker(&tasks, i) == 0),
     );
     let equal = any(&|i, _| blocked_by_equal(&tasks, i));
     tally.note("blocked by a threshold of its own priority", equal);
@@ -51,14 +51,10 @@ pub fn of_times(tally: &mut Tally, mut body: Body, answer: &Answer) -> Option<()
     Some(())
 }
 
-fn first_start(tasks: &Tasks, i: usize) -> Option<u64> {
-    analysis::start(tasks, i, analysis::blocking(tasks, i), 0, 0)
-}
-
 /// When the first job ends.
 fn first_finish(tasks: &Tasks, i: usize) -> Option<u64> {
-    let b = analysis::blocking(tasks, i);
-    analysis::finish(tasks, i, b, first_start(tasks, i)?)
+    let start = analysis::start(tasks, i, analysis::blocking(tasks, i), 0, 0)?;
+    analysis::finish(tasks, i, start)
 }
 
 /// Whether the largest blocking comes from thresholds equal to the priority alone.
@@ -75,7 +71,7 @@ fn blocked_by_equal(tasks: &Tasks, i: usize) -> bool {
 /// Whether, with nothing that blocks, the first job's start would fall on the arrival of a higher
 /// task if arrivals at the start itself were left out.
 fn starts_at_an_arrival(tasks: &Tasks, i: usize) -> bool {
-    if analysis::blocking(tasks, i) > 0 {
+    if analysis::largest_blocker(tasks, i) > 0 {
         return false;
     }
     let higher: Vec<usize> = (0..tasks.n)
@@ -133,7 +129,7 @@ pub fn of_lengths(tally: &mut Tally, mut body: Body, answer: &Answer) -> Option<
     tally.note("a length of the cost", places.any(|(k, t)| *t == cost(k)));
     let mut places = ticks.iter().enumerate();
     tally.note("a length below the cost", places.any(|(k, t)| *t < cost(k)));
-    tally.note("a length of 0", ticks.contains(&0));
+    tally.note("a length of 1", ticks.contains(&1));
     note_below_zero(tally, &table, answer);
     Some(())
 }
