@@ -154,7 +154,7 @@ pub fn finish(tasks: &Tasks, i: usize, s: u64) -> Option<u64> {
 /// The smallest solution of x = side(x) from `from` up, or `None` if there is none at or below
 /// the horizon. `side` never falls as x grows and side(from) ≥ from, so x climbs from below and
 /// cannot step over a solution. At 1,000,000 ticks and fifteen tasks a side is below 10^14.
-fn climb(from: u64, side: impl Fn(u64) -> u64) -> Option<u64> {
+pub fn climb(from: u64, side: impl Fn(u64) -> u64) -> Option<u64> {
     let mut x = from;
     while x <= HORIZON {
         let next = side(x);

@@ -83,6 +83,19 @@ fn an_answer_of_another_call_fails() {
     }
 }
 
+/// No task is left without a single tick: a length of 0 is no answer.
+#[test]
+fn a_length_of_0_fails() {
+    let table = assigned(&[(2, 5, 2), (4, 10, 10)], &[1, 2], &[1, 2]);
+    let mut body = Vec::new();
+    generate::put_table(&mut body, &table);
+    let stream = [&[5][..], &(body.len() as u16).to_be_bytes(), &body].concat();
+    assert_eq!(answers(&stream), b"lengths 2 1\n");
+    assert_eq!(missing(&stream, b"lengths 2 1\n"), None);
+    let said = missing(&stream, b"lengths 2 0\n").expect("a failure");
+    assert_eq!(said, "request 1: lengths can't answer `lengths 2 0`");
+}
+
 #[test]
 fn an_unanswered_request_fails() {
     let stream = requests(5, 1).concat();
