@@ -71,11 +71,13 @@ fn all_of_what_blocks_is_late() {
 
 /// L has the tick less too. A alone fills the processor; the tick of C is over when A comes, so
 /// L(A) = 2. With all of C in L no L is 1 + ceil(L/2)·2, and A would be beyond; with all of it in S
-/// alone, R(A) would be 3. C never gets the processor.
+/// alone, R(A) would be 3. C never gets the processor. Of a C of 2 ticks one is left, and never
+/// made up for: A is beyond, though with no blocking in L its first job would end at 3.
 #[test]
 fn all_of_what_blocks_in_l_alone() {
-    let table = assigned(&[(2, 2, 2), (1, 20, 20)], &[1, 2], &[1, 1]);
-    assert_eq!(times(&table), [Some(2), None]);
+    let full = |c| times(&assigned(&[(2, 2, 2), (c, 20, 20)], &[1, 2], &[1, 1]));
+    assert_eq!(full(1), [Some(2), None]);
+    assert_eq!(full(2), [None, None]);
 }
 
 /// The same at the horizon: L = 500,000 + 500,000, with all of C a tick more. How many jobs L gives
