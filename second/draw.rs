@@ -179,9 +179,10 @@ pub fn short_times(random: &mut Random, table: &mut Table) {
     }
 }
 
-/// All but the lowest task load the processor fully, and that one takes a single tick: whom it
-/// blocks it keeps from nothing, and with its whole tick there would be no end.
-pub fn full_above_one_tick(random: &mut Random, table: &mut Table) {
+/// All but the lowest task load the processor fully, and that one takes a tick or two. Whom it
+/// blocks with one tick it keeps from nothing, though with that tick counted there would be no end;
+/// of two ticks one is left, and there is none.
+pub fn full_above_a_tick_or_two(random: &mut Random, table: &mut Table) {
     let n = table.n as usize;
     let lowest = lowest(table);
     let mut sum = 0;
@@ -190,7 +191,7 @@ pub fn full_above_one_tick(random: &mut Random, table: &mut Table) {
         sum += record.cost;
     }
     sum -= table.records[lowest].cost;
-    table.records[lowest].cost = 1;
+    table.records[lowest].cost = random.one_of(&[1, 1, 2]);
     for record in &mut table.records[..n] {
         record.period = sum.max(1);
         record.deadline = sum.max(1);

@@ -281,7 +281,7 @@ fn aimed_times(random: &mut Random, table: &mut Table) {
     match random.from(0, 11) {
         0..=3 => full_times(random, table),
         4 | 5 => short_times(random, table),
-        6 => full_above_one_tick(random, table),
+        6 => full_above_a_tick_or_two(random, table),
         _ => {}
     }
     if random.once_in(3) {

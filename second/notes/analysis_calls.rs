@@ -61,6 +61,7 @@ fn note_other_rules(tally: &mut Tally, tasks: &Tasks, times: &[Option<u64>]) {
     for (what, rule) in [
         ("all of what blocks", WHOLE),
         ("all of what blocks in L alone", WHOLE_IN_L),
+        ("nothing of what blocks in L", NOTHING_IN_L),
         ("all of what blocks in S alone", WHOLE_IN_S),
         ("the ceiling where something blocks", CEILING),
         ("the rule before", BEFORE),

@@ -4,33 +4,46 @@
 
 use crate::analysis::{active_period, climb, finish, largest_blocker, start, Tasks};
 
-/// Where a rule takes the whole cost of what blocks, first tick and all, and whether it counts by
-/// the ceiling where something blocks, which leaves out jobs that arrive at the start.
+/// How much of what blocks counts.
+#[derive(Clone, Copy)]
+enum Counted {
+    All,
+    AllButATick,
+    Nothing,
+}
+
+/// How much of what blocks a rule counts in L and in S, and whether it counts by the ceiling where
+/// something blocks, which leaves out jobs that arrive at the start.
 #[derive(Clone, Copy)]
 pub struct Rule {
-    whole_in_l: bool,
-    whole_in_s: bool,
+    in_l: Counted,
+    in_s: Counted,
     ceiling: bool,
 }
 
 const RIGHT: Rule = Rule {
-    whole_in_l: false,
-    whole_in_s: false,
+    in_l: Counted::AllButATick,
+    in_s: Counted::AllButATick,
     ceiling: false,
 };
 
 pub const WHOLE_IN_L: Rule = Rule {
-    whole_in_l: true,
+    in_l: Counted::All,
+    ..RIGHT
+};
+
+pub const NOTHING_IN_L: Rule = Rule {
+    in_l: Counted::Nothing,
     ..RIGHT
 };
 
 pub const WHOLE_IN_S: Rule = Rule {
-    whole_in_s: true,
+    in_s: Counted::All,
     ..RIGHT
 };
 
 pub const WHOLE: Rule = Rule {
-    whole_in_s: true,
+    in_s: Counted::All,
     ..WHOLE_IN_L
 };
 
@@ -84,12 +97,16 @@ pub fn blocked_at_an_arrival(tasks: &Tasks, i: usize) -> bool {
 }
 
 fn jobs(tasks: &Tasks, i: usize, rule: Rule) -> Option<u64> {
-    let b = blocking(tasks, i, rule.whole_in_l);
+    let b = blocking(tasks, i, rule.in_l);
     Some(active_period(tasks, i, b)?.div_ceil(tasks.period[i]))
 }
 
-fn blocking(tasks: &Tasks, i: usize, whole: bool) -> u64 {
-    largest_blocker(tasks, i).saturating_sub(!whole as u64)
+fn blocking(tasks: &Tasks, i: usize, counted: Counted) -> u64 {
+    match counted {
+        Counted::All => largest_blocker(tasks, i),
+        Counted::AllButATick => largest_blocker(tasks, i).saturating_sub(1),
+        Counted::Nothing => 0,
+    }
 }
 
 fn by_ceiling(tasks: &Tasks, i: usize, rule: Rule) -> bool {
@@ -97,7 +114,7 @@ fn by_ceiling(tasks: &Tasks, i: usize, rule: Rule) -> bool {
 }
 
 fn start_by(tasks: &Tasks, i: usize, k: u64, before: u64, rule: Rule) -> Option<u64> {
-    let b = blocking(tasks, i, rule.whole_in_s);
+    let b = blocking(tasks, i, rule.in_s);
     if !by_ceiling(tasks, i, rule) {
         return start(tasks, i, b, k, before);
     }
@@ -123,8 +140,16 @@ fn finish_by(tasks: &Tasks, i: usize, s: u64, rule: Rule) -> Option<u64> {
 /// The figures of tests/blocked.rs: R of the second of three tasks, which the third blocks.
 #[test]
 fn what_other_rules_give() {
-    let rules = [RIGHT, WHOLE_IN_L, WHOLE_IN_S, WHOLE, CEILING, BEFORE];
-    for (cost, times) in [(4, [6, 6, 7, 7, 5, 7]), (1, [2, 2, 3, 3, 1, 3])] {
+    let rules = [
+        RIGHT,
+        WHOLE_IN_L,
+        NOTHING_IN_L,
+        WHOLE_IN_S,
+        WHOLE,
+        CEILING,
+        BEFORE,
+    ];
+    for (cost, times) in [(4, [6, 6, 6, 7, 7, 5, 7]), (1, [2, 2, 2, 3, 3, 1, 3])] {
         let tasks = [(1, 4, 4), (1, 10, 10), (cost, 20, 20)];
         let tasks = Tasks::of(&crate::tests::assigned(&tasks, &[1, 2, 3], &[1, 1, 2]));
         assert_eq!(
@@ -133,10 +158,12 @@ fn what_other_rules_give() {
         );
         assert!(blocked_at_an_arrival(&tasks, 1) && !blocked_at_an_arrival(&tasks, 0));
     }
-    let tasks = [(2, 2, 2), (1, 20, 20)];
-    let full = Tasks::of(&crate::tests::assigned(&tasks, &[1, 2], &[1, 1]));
-    assert_eq!(
-        rules.map(|rule| response_time_by(&full, 0, rule)),
-        [Some(2), None, Some(3), None, Some(2), None]
-    );
+    for (cost, times) in [
+        (1, [Some(2), None, Some(2), Some(3), None, Some(2), None]),
+        (2, [None, None, Some(3), None, None, None, None]),
+    ] {
+        let tasks = [(2, 2, 2), (cost, 20, 20)];
+        let full = Tasks::of(&crate::tests::assigned(&tasks, &[1, 2], &[1, 1]));
+        assert_eq!(rules.map(|rule| response_time_by(&full, 0, rule)), times);
+    }
 }

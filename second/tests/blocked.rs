@@ -74,14 +74,16 @@ fn all_of_what_blocks_is_late() {
 /// alone, R(A) would be 3. C never gets the processor. Of a C of 2 ticks one is left, and never
 /// made up for: A is beyond, though with no blocking in L its first job would end at 3.
 #[test]
-fn all_of_what_blocks_in_l_alone() {
+fn what_blocks_counts_in_l() {
     let full = |c| times(&assigned(&[(2, 2, 2), (c, 20, 20)], &[1, 2], &[1, 1]));
     assert_eq!(full(1), [Some(2), None]);
     assert_eq!(full(2), [None, None]);
 }
 
 /// The same at the horizon: L = 500,000 + 500,000, with all of C a tick more. How many jobs L gives
-/// shows in no other way: the jobs that a longer L adds are never the worst.
+/// shows in no other way: the jobs that blocking adds to L are never the worst. Let L' be L with no
+/// blocking, and m its jobs of i: job k + m starts and ends at most L' after job k, for in that time
+/// no more comes than L' holds, and L' is at most m periods.
 #[test]
 fn blocked_up_to_the_horizon() {
     let most = 1_000_000;

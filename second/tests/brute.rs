@@ -288,7 +288,8 @@ fn lengths_value_by_value() {
 /// up, so one tick before it the sum was smaller by a cost at least, and S would not be the
 /// smallest that bears its sum. A job that only waits for higher ones can't start at 0 either.
 /// So at each start both forms of `started` are the same number, and whether F reads the ceiling
-/// or 1 + floor can't be seen in any answer: this test is all that there is to see of it.
+/// or 1 + floor can't be seen in any answer: this test is all that there is to see of it. It tries
+/// the equations as they stand in this file.
 #[test]
 fn no_job_starts_at_an_arrival() {
     let mut dice = Dice::new(9);
