@@ -1,5 +1,5 @@
-//! Response times (document 01, "The analysis"). p is priority, h threshold, and a smaller
-//! number is the higher priority.
+//! Response times (document 01, "The analysis", with the blocking that document 02, item 5,
+//! settles). p is priority, h threshold, and a smaller number is the higher priority.
 
 use crate::checks::*;
 use crate::table::*;
@@ -47,7 +47,7 @@ pub fn response_time(tasks: &Tasks, i: usize) -> Option<i64> {
     let mut s = 0;
     for k in 0..jobs(tasks, i, b)? {
         s = start(tasks, i, b, k, s)?;
-        let f = finish(tasks, i, b, s)?;
+        let f = finish(tasks, i, s)?;
         largest = largest.max(f as i64 - (k * tasks.period[i]) as i64);
     }
     Some(largest)
@@ -64,7 +64,7 @@ fn task_passes(tasks: &Tasks, i: usize) -> Option<()> {
     let mut s = 0;
     for k in 0..jobs(tasks, i, b)? {
         s = start(tasks, i, b, k, s)?;
-        let f = finish(tasks, i, b, s)?;
+        let f = finish(tasks, i, s)?;
         if f > k * tasks.period[i] + tasks.deadline[i] {
             return None;
         }
@@ -73,7 +73,7 @@ fn task_passes(tasks: &Tasks, i: usize) -> Option<()> {
 }
 
 /// B(i), the largest C(j) with h(j) ≤ p(i) < p(j), or 0.
-pub fn blocking(tasks: &Tasks, i: usize) -> u64 {
+pub fn largest_blocker(tasks: &Tasks, i: usize) -> u64 {
     let mut largest = 0;
     for j in 0..tasks.n {
         if tasks.threshold[j] <= tasks.priority[i] && tasks.priority[i] < tasks.priority[j] {
@@ -83,12 +83,19 @@ pub fn blocking(tasks: &Tasks, i: usize) -> u64 {
     largest
 }
 
+/// The blocking b that stands in L and S: a job that is in the way began at an earlier tick than
+/// the arrival, so at least one tick of its cost is over by then. B - 1, or 0 where B is 0
+/// (document 02, item 5).
+pub fn blocking(tasks: &Tasks, i: usize) -> u64 {
+    largest_blocker(tasks, i).saturating_sub(1)
+}
+
 /// ceil(L/T(i)): jobs k run from 0 to one less.
 fn jobs(tasks: &Tasks, i: usize, b: u64) -> Option<u64> {
     Some(active_period(tasks, i, b)?.div_ceil(tasks.period[i]))
 }
 
-/// L(i), the smallest positive L with L = B + sum over p(j) ≤ p(i) of ceil(L/T(j))·C(j). The
+/// L(i), the smallest positive L with L = b + sum over p(j) ≤ p(i) of ceil(L/T(j))·C(j). The
 /// climb begins at 1, so that the trivial answer 0 is passed over.
 pub fn active_period(tasks: &Tasks, i: usize, b: u64) -> Option<u64> {
     climb(1, |l| {
@@ -102,7 +109,7 @@ pub fn active_period(tasks: &Tasks, i: usize, b: u64) -> Option<u64> {
     })
 }
 
-/// S of job k, the smallest S ≥ 0 with S = B + k·C(i) + sum over p(j) < p(i) of
+/// S of job k, the smallest S ≥ 0 with S = b + k·C(i) + sum over p(j) < p(i) of
 /// started(j)·C(j). The right side grows with k, so S of the job before (0 for the first) lies
 /// at or below the answer and the climb may begin there.
 pub fn start(tasks: &Tasks, i: usize, b: u64, k: u64, before: u64) -> Option<u64> {
@@ -110,31 +117,27 @@ pub fn start(tasks: &Tasks, i: usize, b: u64, k: u64, before: u64) -> Option<u64
         let mut sum = b + k * tasks.cost[i];
         for j in 0..tasks.n {
             if tasks.priority[j] < tasks.priority[i] {
-                sum += started(s, tasks.period[j], b) * tasks.cost[j];
+                sum += started(s, tasks.period[j]) * tasks.cost[j];
             }
         }
         sum
     })
 }
 
-/// How many jobs of a higher task have come by the start S: ceil(S/T) if B > 0; if B = 0 an
-/// arrival at the very instant of the start counts too, so 1 + floor(S/T).
-fn started(s: u64, period: u64, b: u64) -> u64 {
-    if b > 0 {
-        s.div_ceil(period)
-    } else {
-        1 + s / period
-    }
+/// How many jobs of a higher task have come by the start S. One that arrives at the very tick of
+/// the start goes first and counts too, whether something blocks or not (document 02, item 5).
+fn started(s: u64, period: u64) -> u64 {
+    1 + s / period
 }
 
 /// F of the job that starts at S, the smallest F > S with F = S + C(i) + sum over p(j) < h(i)
 /// of (ceil(F/T(j)) - started(j))·C(j). For F > S no difference is below zero, so no solution
 /// lies below S + C(i) and the climb begins there.
-pub fn finish(tasks: &Tasks, i: usize, b: u64, s: u64) -> Option<u64> {
+pub fn finish(tasks: &Tasks, i: usize, s: u64) -> Option<u64> {
     let mut begun = [0; MOST_TASKS];
     for j in 0..tasks.n {
         if tasks.priority[j] < tasks.threshold[i] {
-            begun[j] = started(s, tasks.period[j], b);
+            begun[j] = started(s, tasks.period[j]);
         }
     }
     climb(s + tasks.cost[i], |f| {
@@ -151,7 +154,7 @@ pub fn finish(tasks: &Tasks, i: usize, b: u64, s: u64) -> Option<u64> {
 /// The smallest solution of x = side(x) from `from` up, or `None` if there is none at or below
 /// the horizon. `side` never falls as x grows and side(from) ≥ from, so x climbs from below and
 /// cannot step over a solution. At 1,000,000 ticks and fifteen tasks a side is below 10^14.
-fn climb(from: u64, side: impl Fn(u64) -> u64) -> Option<u64> {
+pub fn climb(from: u64, side: impl Fn(u64) -> u64) -> Option<u64> {
     let mut x = from;
     while x <= HORIZON {
         let next = side(x);

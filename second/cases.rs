@@ -133,12 +133,18 @@ fn assigned(tasks: &[(u32, u32, u32)], places: &[(u32, u32)]) -> (Table, Vec<u32
     (table, own)
 }
 
-/// The two jobs of the bench figures in their passing assignment, B in regions of 3 and 1.
+/// The two jobs of the bench figures in an assignment that passes, B in regions of 3 and 1.
 fn two_jobs() -> (Table, Vec<u32>) {
-    let (mut table, _) = assigned(&[A, B], &[(1, 1), (2, 2)]);
-    table.records[1].count = 2;
+    let (mut table, own) = three_and_one(A);
     table.records[1].name = 64;
-    (table, vec![2, 3, 1])
+    (table, own)
+}
+
+/// This task above B, which runs in regions of 3 and 1.
+fn three_and_one(task: (u32, u32, u32)) -> (Table, Vec<u32>) {
+    let (mut table, _) = assigned(&[task, B], &[(1, 1), (2, 2)]);
+    table.records[1].count = 2;
+    (table, vec![task.0, 3, 1])
 }
 
 /// Eight tasks, which `show` is tried on.
@@ -740,6 +746,7 @@ fn response_times(stream: &mut Stream) {
     let places = [(1, 1), (2, 2), (4, 2), (3, 2)];
     let table_1 = assigned(&table_1, &places).0;
     stream.analysis(3, "Table 1 of source document 002", &table_1);
+    blocked(stream);
     let later = assigned(&[(26, 70, 70), (62, 100, 120)], &[(1, 1), (2, 2)]).0;
     stream.analysis(3, "a later job is the worst", &later);
     let full = (600_000, most, most);
@@ -752,6 +759,44 @@ fn response_times(stream: &mut Stream) {
     let odd = record_changed(1, |record| record.count = 9);
     stream.analysis(3, "regions are not looked at", &odd);
     turned_away_analysis(stream, 3);
+}
+
+/// Document 02, item 5: where a tick less of what blocks shows, and an arrival at the start.
+fn blocked(stream: &mut Stream) {
+    let three = |c: u32, places: &[(u32, u32)]| {
+        let tasks = [(1, 4, 4), (1, 10, 10), (c, 20, 20)];
+        assigned(&tasks, places).0
+    };
+    let never_cut = [(1, 1), (2, 1), (3, 2)];
+    for (what, table) in [
+        ("an arrival at a blocked start", three(4, &never_cut)),
+        (
+            "the same, which it may cut",
+            three(4, &[(1, 1), (2, 2), (3, 2)]),
+        ),
+        ("blocked by a cost of 1", three(1, &never_cut)),
+        ("blocked by a cost of 2", three(2, &never_cut)),
+        (
+            "a cost of 1 that blocks nobody",
+            three(1, &[(1, 1), (2, 1), (3, 3)]),
+        ),
+    ] {
+        stream.analysis(3, what, &table);
+    }
+    let two = |tasks: &[(u32, u32, u32)]| assigned(tasks, &[(1, 1), (2, 1)]).0;
+    let full = two(&[(2, 2, 2), (1, 20, 20)]);
+    stream.analysis(3, "a full load, blocked by a cost of 1", &full);
+    let full = two(&[(2, 2, 2), (2, 20, 20)]);
+    stream.analysis(3, "the same by a cost of 2", &full);
+    let most = 1_000_000;
+    for (what, cost) in [
+        ("blocked up to 999,999", 500_000),
+        ("blocked up to 1,000,000", 500_001),
+        ("blocked up to 1,000,001", 500_002),
+    ] {
+        let table = two(&[(500_000, most, most), (cost, most, most)]);
+        stream.analysis(3, what, &table);
+    }
 }
 
 /// What every call of the analysis is turned away by: 5, 9, 10, 14.
@@ -779,6 +824,17 @@ fn tolerances_and_lengths(stream: &mut Stream, kind: u8) {
     let three = [(1, 10, 10), (9, 35, 35), (52, 105, 105)];
     let three = assigned(&three, &[(1, 1), (2, 2), (3, 3)]).0;
     stream.analysis(kind, "the tasks of source document 001", &three);
+    for (what, cost) in [
+        ("a cost at the tolerance above", 3),
+        ("a cost of the tolerance and 1", 4),
+        ("a cost of the tolerance and 2", 5),
+    ] {
+        let table = assigned(&[A, (cost, 20, 20)], &[(1, 1), (2, 2)]).0;
+        stream.analysis(kind, what, &table);
+    }
+    let least = [(3, 10, 10), (2, 20, 8), (9, 90, 90)];
+    let least = assigned(&least, &[(1, 1), (2, 2), (3, 3)]).0;
+    stream.analysis(kind, "the second tolerance is the least", &least);
     stream.analysis(kind, "both tolerances below zero", &both_below().0);
     let far = assigned(&[(most, 1, 1), (most, most, most)], &[(1, 1), (2, 2)]).0;
     stream.analysis(kind, "far below zero", &far);
@@ -808,6 +864,7 @@ fn region_check(stream: &mut Stream) {
         &[0, 3, 1],
     );
     stream.check("4 in the catalogue", &lent(&whole, 1, 0), &[2], &[4]);
+    lengths_reached(stream);
     for (what, table) in turned_away_tables() {
         stream.check(what, &table, &own, &[]);
     }
@@ -827,14 +884,36 @@ fn region_check(stream: &mut Stream) {
     stream.check("both tolerances below zero", &below, &words, &[]);
 }
 
+/// Regions just as long as they may be, and a tick longer.
+fn lengths_reached(stream: &mut Stream) {
+    let of = |deadline: u32, count: u32| {
+        changed(|table| {
+            table.records[0].deadline = deadline;
+            table.records[1].count = count;
+        })
+    };
+    stream.check("A (2,5,4), regions 3 and 1", &of(4, 2), &[2, 3, 1], &[]);
+    stream.check("A (2,5,4), one region of 4", &of(4, 1), &[2, 4], &[]);
+    stream.check(
+        "the same in the catalogue",
+        &lent(&of(4, 1), 1, 0),
+        &[2],
+        &[4],
+    );
+    stream.check("A (2,5,2), regions of 1", &of(2, 4), &[2, 1, 1, 1, 1], &[]);
+    stream.check("A (2,5,2), a region of 2", &of(2, 3), &[2, 1, 2, 1], &[]);
+}
+
 fn rows(stream: &mut Stream) {
     let paper = unassigned(&[(2, 5, 6), B]).0;
-    let only = two_jobs().0;
+    let two = two_jobs().0;
+    let only = unassigned(&[(2, 5, 4), B]).0;
     let none = unassigned(&[(2, 5, 1), B]).0;
     let most = 1_000_000;
     stream.first_row("A (2,5,6), B (4,10,10)", 4, &paper);
     stream.first_row("room for more", 6, &paper);
-    stream.first_row("A (2,5,5): the only row", 4, &only);
+    stream.first_row("A (2,5,5): two rows", 4, &two);
+    stream.first_row("A (2,5,4): the only row", 4, &only);
     stream.first_row("A (2,5,1): no row", 4, &none);
     let over = unassigned(&[(3, 2, 2)]).0;
     stream.first_row("one task (3,2,2)", 2, &over);
@@ -857,6 +936,8 @@ fn rows(stream: &mut Stream) {
     stream.next_row("to another order", 4, &paper, &[1, 2, 1, 2]);
     stream.next_row("after the third", 4, &paper, &[2, 1, 1, 1]);
     stream.next_row("after the last", 5, &paper, &[2, 1, 2, 1]);
+    stream.next_row("after the first of two", 4, &two, &[1, 2, 1, 1]);
+    stream.next_row("after the second of two", 4, &two, &[1, 2, 1, 2]);
     stream.next_row("from a row that fails", 5, &only, &[1, 2, 1, 1]);
     stream.next_row("after the only row", 4, &only, &[1, 2, 1, 2]);
     next_rows_of_fifteen(stream);
@@ -1132,7 +1213,8 @@ fn list_inputs() -> Vec<(String, Vec<u8>)> {
     let mut list = Vec::new();
     for (name, input) in [
         ("paper", paper.clone()),
-        ("only row", input(&[A, B])),
+        ("two rows", input(&[A, B])),
+        ("only row", input(&[(2, 5, 4), B])),
         ("no row", input(&[(2, 5, 1), B])),
         ("one task", input(&[(3, 5, 4)])),
         ("one task beyond", input(&[(3, 2, 2)])),
@@ -1182,11 +1264,14 @@ fn show_inputs() -> Vec<(String, Vec<u8>)> {
     let most = 1_000_000;
     let order = [(1, 1), (2, 2)];
     let full = (600_000, most, most);
+    // It tolerates 2 ticks, so B may run for 3.
+    let short = (2, 5, 4);
     let mut list = Vec::new();
     for (name, input) in [
         ("unassigned", input(unassigned(&[(2, 5, 6), B]))),
         ("all well", plated(PLATE, &two_jobs_file())),
-        ("region too long", input(assigned(&[A, B], &order))),
+        ("region too long", input(assigned(&[short, B], &order))),
+        ("region just as long", input(three_and_one(short))),
         (
             "deadline above period",
             input(assigned(&[(2, 5, 6), B], &order)),
@@ -1197,7 +1282,7 @@ fn show_inputs() -> Vec<(String, Vec<u8>)> {
         ),
         (
             "late and too long",
-            input(assigned(&[A, B], &[(1, 1), (2, 1)])),
+            input(assigned(&[short, B], &[(1, 1), (2, 1)])),
         ),
         ("beyond", input(assigned(&[full, full], &order))),
         ("largest", input(assigned(&[(most, most, most)], &[(1, 1)]))),

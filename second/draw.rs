@@ -1,8 +1,8 @@
 //! Cabinets, rows and name lists drawn from random numbers: all of them good, so that a call
 //! takes them. What makes them wrong stands in spoil.rs.
 
-use crate::analysis::{passes, response_time, Tasks};
-use crate::lengths::lengths;
+use crate::analysis::{passes, response_time, response_times, Tasks};
+use crate::lengths::{lengths, tolerances};
 use crate::random::Random;
 use crate::table::*;
 
@@ -165,6 +165,61 @@ pub fn full_times(random: &mut Random, table: &mut Table) {
     for record in &mut table.records[..n as usize] {
         record.deadline += random.from(0, record.period);
     }
+}
+
+/// Costs of a few ticks and periods with common multiples: blockers of a tick or two, and starts
+/// that would fall on an arrival if it weren't counted.
+pub fn short_times(random: &mut Random, table: &mut Table) {
+    let n = table.n as u32;
+    let step = random.one_of(&[2, 3, 4]);
+    for record in &mut table.records[..n as usize] {
+        record.cost = random.one_of(&[1, 1, 2, 2, 3]);
+        record.period = step * random.from(n, 2 * n);
+        record.deadline = record.period;
+    }
+}
+
+/// All but the lowest task load the processor fully, and that one takes a tick or two. Whom it
+/// blocks with one tick it keeps from nothing, though with that tick counted there would be no end;
+/// of two ticks one is left, and there is none.
+pub fn full_above_a_tick_or_two(random: &mut Random, table: &mut Table) {
+    let n = table.n as usize;
+    let lowest = lowest(table);
+    let mut sum = 0;
+    for record in &mut table.records[..n] {
+        record.cost = random.from(1, 5);
+        sum += record.cost;
+    }
+    sum -= table.records[lowest].cost;
+    table.records[lowest].cost = random.one_of(&[1, 1, 2]);
+    for record in &mut table.records[..n] {
+        record.period = sum.max(1);
+        record.deadline = sum.max(1);
+    }
+}
+
+/// The record of lowest priority.
+fn lowest(table: &Table) -> usize {
+    let places = 0..table.n as usize;
+    let lowest = places.max_by_key(|k| table.records[*k].priority);
+    lowest.unwrap_or(0)
+}
+
+/// Every deadline at the response time or behind it, but for one, mostly, that is just kept or
+/// missed by a tick. The table stays as it is where a task is beyond, or none has a priority.
+pub fn deadlines_at_the_times(random: &mut Random, table: &mut Table) {
+    let Ok(times) = response_times(table) else {
+        return;
+    };
+    let Some(times) = times.into_iter().collect::<Option<Vec<i64>>>() else {
+        return;
+    };
+    for (record, time) in table.records.iter_mut().zip(&times) {
+        record.deadline = record.deadline.max(*time as u32);
+    }
+    let k = random.place(times.len());
+    let less = random.one_of(&[0, 0, 1]);
+    table.records[k].deadline = (times[k] as u32 - less).max(1);
 }
 
 /// The cost of one of n tasks that together load the processor by so much of a hundred.
@@ -333,18 +388,45 @@ pub fn cut_to_lengths(random: &mut Random, cabinet: &mut Cabinet) {
         return;
     };
     for (record, length) in table.records.iter_mut().zip(lengths) {
-        let words = pieces(record.cost, length as u32);
+        let count = record.cost.div_ceil(length as u32);
         record.source = Source::Own;
-        (record.first, record.count) = (own.len() as u32, words.len() as u32);
-        own.extend(words);
-    }
-    if own.len() > MOST_REGION_WORDS || own.contains(&0) {
-        return;
+        (record.first, record.count) = (own.len() as u32, count);
+        if own.len() + count as usize > MOST_REGION_WORDS {
+            return;
+        }
+        own.extend(pieces(record.cost, length as u32));
     }
     if random.once_in(2) {
         lengthen_one(&table, &mut own);
     }
     (cabinet.table, cabinet.own) = (table, own);
+}
+
+/// The lowest task costs about what the others tolerate, from a tick less to three more, and runs
+/// in one region. The cabinet stays as it is where nothing is tolerated, or there are no others.
+pub fn cost_at_the_tolerance(random: &mut Random, cabinet: &mut Cabinet) {
+    let Ok(tolerances) = tolerances(&cabinet.table) else {
+        return;
+    };
+    let k = lowest(&cabinet.table);
+    let others = (0..tolerances.len()).filter(|other| *other != k);
+    let least = others.map(|other| tolerances[other]).min();
+    let Some(least @ 0..) = least else {
+        return;
+    };
+    if cabinet.own.len() == MOST_REGION_WORDS {
+        return;
+    }
+    let cost = least + random.one_of(&[-1, 0, 1, 1, 2, 2, 3]);
+    let cost = cost.clamp(1, MOST_TICKS as i64) as u32;
+    // Long enough that it bears the others in most tables.
+    let wide = (cost as u64 * 4 * cabinet.table.n as u64).min(MOST_TICKS as u64) as u32;
+    let record = &mut cabinet.table.records[k];
+    record.cost = cost;
+    record.period = record.period.max(wide);
+    record.deadline = record.period;
+    (record.source, record.first, record.count) = (Source::Own, cabinet.own.len() as u32, 1);
+    cabinet.own.push(cost);
 }
 
 /// A task, mostly the lowest, runs in one region, which seldom fits.
@@ -353,9 +435,8 @@ pub fn one_region(random: &mut Random, cabinet: &mut Cabinet) {
     if cabinet.own.len() == MOST_REGION_WORDS {
         return;
     }
-    let any = random.place(n);
-    let lowest = (0..n).max_by_key(|k| cabinet.table.records[*k].priority);
-    let k = random.one_of(&[any, lowest.unwrap_or(any), lowest.unwrap_or(any)]);
+    let (any, lowest) = (random.place(n), lowest(&cabinet.table));
+    let k = random.one_of(&[any, lowest, lowest]);
     let record = &mut cabinet.table.records[k];
     (record.source, record.first, record.count) = (Source::Own, cabinet.own.len() as u32, 1);
     cabinet.own.push(record.cost);
@@ -373,11 +454,8 @@ fn lengthen_one(table: &Table, own: &mut [u32]) {
     }
 }
 
-/// Words of the whole cost, each as long as may be; a word of 0 where none may.
+/// Words of the whole cost, each as long as may be.
 fn pieces(cost: u32, length: u32) -> Vec<u32> {
-    if length == 0 || cost / length > MOST_REGION_WORDS as u32 {
-        return vec![0];
-    }
     let mut words = vec![length; (cost / length) as usize];
     if cost % length > 0 {
         words.push(cost % length);
@@ -517,7 +595,7 @@ fn row_passes(table: &Table, row: &[u8]) -> bool {
 }
 
 /// The table's tasks with this row's assignment.
-fn tasks_in(table: &Table, row: &[u8]) -> Tasks {
+pub fn tasks_in(table: &Table, row: &[u8]) -> Tasks {
     let mut tasks = Tasks::of(table);
     let (order, thresholds) = row.split_at(tasks.n);
     for place in 0..tasks.n {

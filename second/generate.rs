@@ -124,14 +124,14 @@ fn soon_tried(table: &Table) -> bool {
 }
 
 /// The most jobs that can stand in one busy stretch of this table, whatever the assignment: those
-/// of the lowest task with the largest cost as its blocking.
+/// of the lowest task with the largest cost, but for its first tick, as its blocking.
 fn most_jobs(table: &Table) -> u64 {
     let mut tasks = Tasks::of(table);
     for k in 0..tasks.n {
         tasks.priority[k] = k as u32 + 1;
     }
-    let blocking = tasks.cost[..tasks.n].iter().copied().max().unwrap_or(0);
-    let stretch = active_period(&tasks, tasks.n - 1, blocking).unwrap_or(MOST_TICKS as u64);
+    let largest = tasks.cost[..tasks.n].iter().copied().max().unwrap_or(1);
+    let stretch = active_period(&tasks, tasks.n - 1, largest - 1).unwrap_or(MOST_TICKS as u64);
     let periods = tasks.period[..tasks.n].iter();
     periods.map(|period| stretch.div_ceil(*period)).sum()
 }
@@ -260,15 +260,11 @@ fn of_analysis(random: &mut Random, kind: u8) -> Vec<u8> {
         6 => &[0, 0, 5, 9, 10, 11, 14, 15, 16],
         _ => &[0, 0, 0, 5, 9, 10, 14, 15, 16],
     };
-    if kind == 3 && random.once_in(4) {
-        full_times(random, &mut cabinet.table);
-    }
-    if kind == 6 {
-        match random.from(0, 5) {
-            0 | 1 => cut_to_lengths(random, &mut cabinet),
-            2 | 3 => one_region(random, &mut cabinet),
-            _ => {}
-        }
+    match kind {
+        3 => aimed_times(random, &mut cabinet.table),
+        5 if random.once_in(2) => cost_at_the_tolerance(random, &mut cabinet),
+        6 => aimed_regions(random, &mut cabinet),
+        _ => {}
     }
     spoil(random, &mut cabinet, asked);
     let mut body = Vec::new();
@@ -278,6 +274,29 @@ fn of_analysis(random: &mut Random, kind: u8) -> Vec<u8> {
         put_words(&mut body, &cabinet.catalogue);
     }
     body
+}
+
+/// Tables, more often than not, whose response times show what one drawn anyhow seldom shows.
+fn aimed_times(random: &mut Random, table: &mut Table) {
+    match random.from(0, 11) {
+        0..=3 => full_times(random, table),
+        4 | 5 => short_times(random, table),
+        6 => full_above_a_tick_or_two(random, table),
+        _ => {}
+    }
+    if random.once_in(3) {
+        deadlines_at_the_times(random, table);
+    }
+}
+
+/// Regions about as long as they may be, mostly.
+fn aimed_regions(random: &mut Random, cabinet: &mut Cabinet) {
+    match random.from(0, 8) {
+        0..=2 => cut_to_lengths(random, cabinet),
+        3 | 4 => one_region(random, cabinet),
+        5 | 6 => cost_at_the_tolerance(random, cabinet),
+        _ => {}
+    }
 }
 
 /// A row is searched for. Of few tasks all rows can be walked over; of many the table is drawn so

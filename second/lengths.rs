@@ -1,5 +1,5 @@
 //! Tolerances, lengths and the region check (document 01, "The analysis", after source document
-//! 000). Thresholds play no part.
+//! 000; the lengths as document 02, item 5, settles them). Thresholds play no part.
 
 use crate::analysis::Tasks;
 use crate::checks::{self, *};
@@ -78,11 +78,13 @@ fn spare_at(tasks: &Tasks, i: usize, t: u64) -> i64 {
     spare
 }
 
-/// The smaller of C(k) and the least tolerance of the tasks above k; C(k) if none is above.
+/// The smaller of C(k) and the least tolerance of the tasks above k plus 1; C(k) if none is above.
+/// A region's first tick is over when a higher task arrives, so it holds that one up for a tick
+/// less than it is long.
 fn length(tasks: &Tasks, tolerances: &[i64], k: usize) -> i64 {
     let mut least = tasks.cost[k] as i64;
     for i in above(tasks, k) {
-        least = least.min(tolerances[i]);
+        least = least.min(tolerances[i] + 1);
     }
     least
 }

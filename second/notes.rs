@@ -3,6 +3,7 @@
 
 mod analysis_calls;
 mod files;
+mod other_rules;
 mod parts_calls;
 mod rows;
 mod tables;
@@ -11,7 +12,7 @@ use crate::analysis::{self, Tasks};
 use crate::ask::Body;
 use crate::cases::CALLS;
 use crate::checks::{self, *};
-use crate::draw::{step_back, LIKE_A_SPACE};
+use crate::draw::{step_back, tasks_in, LIKE_A_SPACE};
 use crate::file;
 use crate::lengths;
 use crate::listing::Row;

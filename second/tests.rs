@@ -3,6 +3,7 @@
 mod asking;
 mod bench;
 mod blank;
+mod blocked;
 mod brute;
 mod cases;
 mod files;

@@ -1,5 +1,6 @@
 //! What response times, tolerances, lengths and the region check reach.
 
+use super::other_rules::*;
 use super::*;
 use std::ops::RangeInclusive;
 
@@ -39,26 +40,47 @@ pub fn of_times(tally: &mut Tally, mut body: Body, answer: &Answer) -> Option<()
     let later_job = any(&|i, r| first_finish(&tasks, i).is_some_and(|f| f < r));
     tally.note("a later job is the worst", later_job);
     tally.note("a later job is the worst at n 9 to 15", later_job && many);
-    tally.note("blocked", any(&|i, _| analysis::blocking(&tasks, i) > 0));
-    tally.note(
-        "not blocked",
-        any(&|i, _| analysis::blocking(&tasks, i) == 0),
-    );
+    let by = |what: fn(u64) -> bool| any(&|i, _| what(analysis::largest_blocker(&tasks, i)));
+    tally.note("not blocked", by(|cost| cost == 0));
+    tally.note("blocked by a cost of 1", by(|cost| cost == 1));
+    tally.note("blocked by a cost of 2", by(|cost| cost == 2));
+    tally.note("blocked by a larger cost", by(|cost| cost > 2));
     let equal = any(&|i, _| blocked_by_equal(&tasks, i));
     tally.note("blocked by a threshold of its own priority", equal);
     let arrival = any(&|i, _| starts_at_an_arrival(&tasks, i));
     tally.note("an arrival at the start, not blocked", arrival);
+    let arrival = any(&|i, _| blocked_at_an_arrival(&tasks, i));
+    tally.note("an arrival at the start, blocked", arrival);
+    note_other_rules(tally, &tasks, &times);
     Some(())
 }
 
-fn first_start(tasks: &Tasks, i: usize) -> Option<u64> {
-    analysis::start(tasks, i, analysis::blocking(tasks, i), 0, 0)
+/// Which rules that document 02, item 5, shuts out would answer otherwise. They differ from the
+/// right one for blocked tasks alone.
+fn note_other_rules(tally: &mut Tally, tasks: &Tasks, times: &[Option<u64>]) {
+    for (what, rule) in [
+        ("all of what blocks", WHOLE),
+        ("all of what blocks in L alone", WHOLE_IN_L),
+        ("nothing of what blocks in L", NOTHING_IN_L),
+        ("all of what blocks in S alone", WHOLE_IN_S),
+        ("the ceiling where something blocks", CEILING),
+        ("the rule before", BEFORE),
+    ] {
+        let mut blocked = (0..times.len()).filter(|i| analysis::largest_blocker(tasks, *i) > 0);
+        let time = |i| response_time_by(tasks, i, rule).map(|time| time as u64);
+        let other = blocked.any(|i| time(i) != times[i]);
+        tally.note(&format!("another time by {what}"), other);
+    }
+    let in_time = |(i, time): (usize, &Option<u64>)| time.is_some_and(|r| r <= tasks.deadline[i]);
+    let passes = !times.is_empty() && times.iter().enumerate().all(in_time);
+    let late = passes && !passes_by(tasks, WHOLE);
+    tally.note("in time, and late by all of what blocks", late);
 }
 
 /// When the first job ends.
 fn first_finish(tasks: &Tasks, i: usize) -> Option<u64> {
-    let b = analysis::blocking(tasks, i);
-    analysis::finish(tasks, i, b, first_start(tasks, i)?)
+    let start = analysis::start(tasks, i, analysis::blocking(tasks, i), 0, 0)?;
+    analysis::finish(tasks, i, start)
 }
 
 /// Whether the largest blocking comes from thresholds equal to the priority alone.
@@ -75,7 +97,7 @@ fn blocked_by_equal(tasks: &Tasks, i: usize) -> bool {
 /// Whether, with nothing that blocks, the first job's start would fall on the arrival of a higher
 /// task if arrivals at the start itself were left out.
 fn starts_at_an_arrival(tasks: &Tasks, i: usize) -> bool {
-    if analysis::blocking(tasks, i) > 0 {
+    if analysis::largest_blocker(tasks, i) > 0 {
         return false;
     }
     let higher: Vec<usize> = (0..tasks.n)
@@ -127,15 +149,57 @@ pub fn of_lengths(tally: &mut Tally, mut body: Body, answer: &Answer) -> Option<
     tally.note_often(HALF_AS_OFTEN, "answered at n 6 to 8", answered(6..=8));
     tally.note_often(AIMED_AT, "answered at n 9 to 15", answered(9..=15));
     let ticks = ticks_of(answer);
-    let costs = held(&table);
-    let cost = |k: usize| costs.records[k].cost as i64;
+    let seen = held(&table);
+    let cost = |k: usize| seen.records[k].cost as i64;
     let mut places = ticks.iter().enumerate();
     tally.note("a length of the cost", places.any(|(k, t)| *t == cost(k)));
     let mut places = ticks.iter().enumerate();
     tally.note("a length below the cost", places.any(|(k, t)| *t < cost(k)));
-    tally.note("a length of 0", ticks.contains(&0));
+    note_least_tolerances(tally, &seen, &ticks);
     note_below_zero(tally, &table, answer);
-    Some(())
+    // A higher task can always bear a region of a single tick.
+    ticks.iter().all(|length| *length >= 1).then_some(())
+}
+
+/// How the least tolerance above a task lies to its cost, and which length comes of that.
+fn note_least_tolerances(tally: &mut Tally, table: &Table, lengths: &[i64]) {
+    let least = least_above(table);
+    let any = |what: &dyn Fn(i64, i64, i64) -> bool| {
+        let mut places = table.tasks().iter().zip(lengths).zip(&least);
+        places.any(|((task, length), least)| {
+            least.is_some_and(|least| what(*length, least, task.cost as i64))
+        })
+    };
+    let below = |length, least, cost| length == least + 1 && length < cost;
+    tally.note(
+        "a length of a tolerance plus 1, below the cost",
+        any(&below),
+    );
+    let one = |length, least, cost| least == 0 && length == 1 && cost > 1;
+    tally.note("a length of 1 below a tolerance of 0", any(&one));
+    for (what, more) in [
+        ("the cost less 2", -2),
+        ("the cost less 1", -1),
+        ("the cost", 0),
+        ("the cost and 1", 1),
+    ] {
+        let what = format!("the least tolerance above is {what}");
+        tally.note(&what, any(&|_, least, cost| least == cost + more));
+    }
+    let far = any(&|_, least, cost| least > cost + 1);
+    tally.note("the least tolerance above is larger", far);
+}
+
+/// The least tolerance of the tasks above each task; none above the highest, and none where the
+/// tolerances are refused.
+fn least_above(table: &Table) -> Vec<Option<i64>> {
+    let tolerances = lengths::tolerances(table).unwrap_or_default();
+    let priority = |k: usize| table.records[k].priority;
+    let least = |k: usize| {
+        let above = (0..tolerances.len()).filter(|i| priority(*i) < priority(k));
+        above.map(|i| tolerances[i]).min()
+    };
+    (0..tolerances.len()).map(least).collect()
 }
 
 /// Which record a refusal 16 names.
@@ -179,7 +243,31 @@ pub fn of_region_check(tally: &mut Tally, mut body: Body, answer: &Answer) -> Op
     let left = least_left(&table, &own, &catalogue, answer);
     tally.note("a region of just its length", left == Some(0));
     tally.note("a region one too long", left == Some(-1));
+    let above = longest_above_tolerance(&table, &own, &catalogue, answer);
+    for (said, more) in [("fits", 0), ("fits", 1), ("unfit", 2)] {
+        let what = format!("{said}, a region of a tolerance plus {more}");
+        tally.note(&what, answer.line == said && above == Some(more));
+    }
     Some(())
+}
+
+/// By how much the longest region of a task lies above the least tolerance of the higher ones, the
+/// most of all tasks.
+fn longest_above_tolerance(
+    table: &Table,
+    own: &[u32],
+    catalogue: &[u32],
+    answer: &Answer,
+) -> Option<i64> {
+    if !answer.taken() {
+        return None;
+    }
+    let above = |(task, least): (&Record, Option<i64>)| {
+        let regions = checks::regions(task, own, catalogue)?;
+        Some(*regions.iter().max()? as i64 - least?)
+    };
+    let tasks = table.tasks().iter().zip(least_above(table));
+    tasks.filter_map(above).max()
 }
 
 /// The least that a length leaves over its longest region, lengths of the whole cost apart.

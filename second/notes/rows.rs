@@ -1,5 +1,6 @@
 //! What the first row and the next row reach.
 
+use super::other_rules::{passes_by, WHOLE};
 use super::*;
 
 pub fn of_first_row(tally: &mut Tally, mut body: Body, answer: &Answer) -> Option<()> {
@@ -11,6 +12,7 @@ pub fn of_first_row(tally: &mut Tally, mut body: Body, answer: &Answer) -> Optio
     faults.note_meetings(tally, 7, answer);
     note_listing(tally, &table, room, answer);
     let row = answer.row(n);
+    note_whole_blocking(tally, &table, &row);
     let (order, thresholds) = row.split_at(row.len() / 2);
     let first = order.is_sorted() && thresholds.iter().all(|threshold| *threshold == 1);
     tally.note("the first row of all", !row.is_empty() && first);
@@ -39,6 +41,7 @@ pub fn of_next_row(tally: &mut Tally, mut body: Body, answer: &Answer) -> Option
     faults.note_meetings(tally, 8, answer);
     note_listing(tally, &table, room, answer);
     let row = answer.row(n);
+    note_whole_blocking(tally, &table, &row);
     let mut before = row.clone();
     step_back(&mut before);
     let over = !row.is_empty() && before != given;
@@ -61,6 +64,17 @@ pub fn of_next_row(tally: &mut Tally, mut body: Body, answer: &Answer) -> Option
     }
     note_bad_row(tally, n, given, answer);
     Some(())
+}
+
+/// A row that passes, and would fail if what blocks counted with all of its cost.
+fn note_whole_blocking(tally: &mut Tally, table: &Table, row: &[u8]) {
+    let fails = !row.is_empty() && !passes_by(&tasks_in(table, row), WHOLE);
+    tally.note("a row that fails by all of what blocks", fails);
+    let many = row.len() >= 18;
+    tally.note(
+        "a row that fails by all of what blocks at n 9 to 15",
+        fails && many,
+    );
 }
 
 fn note_listing(tally: &mut Tally, table: &Table, room: usize, answer: &Answer) {

@@ -124,7 +124,7 @@ fn kinds_3_to_5_analysis() {
     let kinds = |table: &Table| [3, 4, 5].map(|kind| answer(kind, start().table(table)));
     assert_eq!(
         kinds(&table),
-        ["times 2 8", "tolerances 3 2", "lengths 2 3"]
+        ["times 2 8", "tolerances 3 2", "lengths 2 4"]
     );
     table.records[0].deadline = 1;
     assert_eq!(
@@ -141,6 +141,8 @@ fn kinds_3_to_5_analysis() {
 fn kind_6_region_check() {
     let (mut table, own) = two_jobs();
     let check = |table: &Table, own: &[u32]| answer(6, start().table(table).words(own).words(&[]));
+    assert_eq!(check(&table, &own), "fits");
+    table.records[0].deadline = 4;
     assert_eq!(check(&table, &own), "unfit");
     table.records[1].count = 2;
     assert_eq!(check(&table, &[2, 3, 1]), "fits");
@@ -151,8 +153,8 @@ fn kind_6_region_check() {
 fn kinds_7_and_8_rows() {
     let (table, _) = two_jobs();
     let first = |room| answer(7, start().two(room).table(&table));
-    assert_eq!(first(5), "row out 1 2 1 2 165");
-    assert_eq!(first(4), "row out 1 2 1 2");
+    assert_eq!(first(5), "row out 1 2 1 1 165");
+    assert_eq!(first(4), "row out 1 2 1 1");
     assert_eq!(first(3), "refused 12 out 165 165 165");
     let next = |row: &[u8]| answer(8, start().two(4).table(&table).bytes(row));
     assert_eq!(next(&[1, 2, 1, 1]), "row out 1 2 1 2");

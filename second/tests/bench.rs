@@ -1,4 +1,5 @@
-//! Document 01, "Bench figures". A is record 1 and B is (4,10,10).
+//! Document 01, "Bench figures", with those that document 02, item 5, changes. A is record 1 and B
+//! is (4,10,10).
 
 use super::*;
 use crate::analysis::*;
@@ -25,13 +26,20 @@ fn a_b_thresholds_1_2() {
 #[test]
 fn a_b_thresholds_1_1() {
     let table = assigned(&[(2, 5, 5), B], &[1, 2], &[1, 1]);
-    assert_eq!(response_times(&table), Ok(vec![Some(6), Some(6)]));
-    assert!(!passes(&Tasks::of(&table)));
+    assert_eq!(response_times(&table), Ok(vec![Some(5), Some(6)]));
+    assert!(passes(&Tasks::of(&table)));
 }
 
 #[test]
-fn only_passing_row() {
-    assert_eq!(rows(&unassigned(&[(2, 5, 5), B])), vec![vec![1, 2, 1, 2]]);
+fn two_rows_of_a_b() {
+    let two = vec![vec![1, 2, 1, 1], vec![1, 2, 1, 2]];
+    assert_eq!(rows(&unassigned(&[(2, 5, 5), B])), two);
+}
+
+#[test]
+fn four_rows_of_a_later_a() {
+    let four = [[1, 2, 1, 1], [1, 2, 1, 2], [2, 1, 1, 1], [2, 1, 2, 1]];
+    assert_eq!(rows(&unassigned(&[(2, 5, 6), B])), four);
 }
 
 #[test]
@@ -43,22 +51,29 @@ fn no_row_passes() {
 fn tolerances_and_lengths_of_a_b() {
     let table = assigned(&[(2, 5, 5), B], &[1, 2], &[1, 2]);
     assert_eq!(tolerances(&table), Ok(vec![3, 2]));
-    assert_eq!(lengths(&table), Ok(vec![2, 3]));
+    assert_eq!(lengths(&table), Ok(vec![2, 4]));
 }
 
 #[test]
 fn regions_of_b() {
     let mut table = assigned(&[(2, 5, 5), B], &[1, 2], &[1, 2]);
     let whole = whole_regions(&mut table);
-    assert_eq!(regions_fit(&table, &whole, &[]), Ok(false));
+    assert_eq!(regions_fit(&table, &whole, &[]), Ok(true));
     table.records[1].count = 2;
     assert_eq!(regions_fit(&table, &[2, 3, 1], &[]), Ok(true));
 }
 
+/// A tolerates nothing, and a single tick of B is no wait for it.
 #[test]
-fn length_of_b_is_0() {
-    let table = assigned(&[(2, 5, 2), B], &[1, 2], &[1, 2]);
-    assert_eq!(lengths(&table).map(|lengths| lengths[1]), Ok(0));
+fn length_of_b_is_1() {
+    let mut table = assigned(&[(2, 5, 2), B], &[1, 2], &[1, 2]);
+    assert_eq!(tolerances(&table).map(|tolerances| tolerances[0]), Ok(0));
+    assert_eq!(lengths(&table).map(|lengths| lengths[1]), Ok(1));
+    whole_regions(&mut table);
+    table.records[1].count = 4;
+    assert_eq!(regions_fit(&table, &[2, 1, 1, 1, 1], &[]), Ok(true));
+    table.records[1].count = 3;
+    assert_eq!(regions_fit(&table, &[2, 1, 2, 1], &[]), Ok(false));
 }
 
 #[test]
@@ -80,7 +95,7 @@ fn three_tasks_of_source_001() {
     let table = assigned(&tasks, &[1, 2, 3], &[1, 2, 3]);
     let tolerances = tolerances(&table).expect("refused");
     assert_eq!(tolerances[..2], [9, 22]);
-    assert_eq!(lengths(&table).map(|lengths| lengths[2]), Ok(9));
+    assert_eq!(lengths(&table).map(|lengths| lengths[2]), Ok(10));
 }
 
 #[test]
@@ -108,19 +123,32 @@ fn table_1_of_source_002() -> Table {
 #[test]
 fn first_jobs_of_table_1() {
     let tasks = Tasks::of(&table_1_of_source_002());
-    let first_finish = |i| {
-        let b = blocking(&tasks, i);
-        finish(&tasks, i, b, start(&tasks, i, b, 0, 0)?)
-    };
+    let first_finish = |i| finish(&tasks, i, start(&tasks, i, blocking(&tasks, i), 0, 0)?);
     let finishes: Vec<Option<u64>> = (0..4).map(first_finish).collect();
-    assert_eq!(finishes, [Some(1), Some(21), Some(25), Some(25)]);
+    assert_eq!(finishes, [Some(1), Some(20), Some(25), Some(24)]);
 }
 
-/// The response times that source document 002 prints.
+/// Source document 002 prints 1, 21, 25, 25. Tasks 2 and 4 are blocked by task 3, 10 ticks there
+/// and 9 here, and end a tick sooner:
+///
+/// - task 2: S = 9 + (1 + floor(11/7)) = 11, and task 1 cuts in once more, at 14: F = 11 + 8 + 1;
+/// - task 4: S = 9 + (1 + floor(20/7)) + 8 = 20, and task 1 cuts in at 21: F = 20 + 3 + 1.
+///
+/// Each has one job to look at: L(2) = 9 + 3 + 8 = 20, below 23, and L(4) = 9 + 5 + 16 + 3 = 33,
+/// just its period. Tasks 1 and 3 are blocked by nobody, so theirs are the printed ones.
 #[test]
 fn all_of_table_1() {
-    let times = response_times(&table_1_of_source_002());
-    assert_eq!(times, Ok(vec![Some(1), Some(21), Some(25), Some(25)]));
+    let table = table_1_of_source_002();
+    let times = response_times(&table);
+    assert_eq!(times, Ok(vec![Some(1), Some(20), Some(25), Some(24)]));
+    let tasks = Tasks::of(&table);
+    assert_eq!(
+        [0, 1, 2, 3].map(|i| largest_blocker(&tasks, i)),
+        [0, 10, 0, 10]
+    );
+    assert_eq!([0, 1, 2, 3].map(|i| blocking(&tasks, i)), [0, 9, 0, 9]);
+    let stretch = |i| active_period(&tasks, i, blocking(&tasks, i));
+    assert_eq!([stretch(1), stretch(3)], [Some(20), Some(33)]);
 }
 
 #[test]

@@ -1,9 +1,11 @@
-//! The analysis tried out value by value: every L, S, F and t one after the other, straight by
-//! the equations of document 01, "The analysis", in signed numbers.
+//! The analysis tried out value by value: every L, S, F, t and length one after the other, straight
+//! by the equations of document 01, "The analysis", with the changes of document 02, item 5, in
+//! signed numbers.
 
 use super::*;
 use crate::analysis::*;
-use crate::lengths::tolerances;
+use crate::checks::Refusal;
+use crate::lengths::{lengths, tolerances};
 use crate::listing::Walk;
 
 const HORIZON: i64 = 1_000_000;
@@ -41,52 +43,68 @@ fn floor(above: i64, below: i64) -> i64 {
     above.div_euclid(below)
 }
 
-fn blocking(tasks: &[Task], i: Task) -> i64 {
-    tasks
-        .iter()
-        .filter(|j| j.h <= i.p && i.p < j.p)
-        .map(|j| j.c)
-        .max()
-        .unwrap_or(0)
+/// B(i).
+fn largest_cost_in_the_way(tasks: &[Task], i: Task) -> i64 {
+    let in_the_way = tasks.iter().filter(|j| j.h <= i.p && i.p < j.p);
+    in_the_way.map(|j| j.c).max().unwrap_or(0)
 }
 
-fn active_period(tasks: &[Task], i: Task, b: i64) -> Option<i64> {
+/// What L and S have of it.
+fn blocking(tasks: &[Task], i: Task) -> i64 {
+    match largest_cost_in_the_way(tasks, i) {
+        0 => 0,
+        b => b - 1,
+    }
+}
+
+fn active_period(tasks: &[Task], i: Task) -> Option<i64> {
+    let b = blocking(tasks, i);
     let above: Vec<&Task> = tasks.iter().filter(|j| j.p <= i.p).collect();
     (1..=HORIZON).find(|l| *l == b + above.iter().map(|j| (l + j.t - 1) / j.t * j.c).sum::<i64>())
 }
 
-fn started(b: i64, s: i64, j: &Task) -> i64 {
-    if b > 0 {
-        ceil(s, j.t)
-    } else {
-        1 + floor(s, j.t)
-    }
+fn started(s: i64, j: &Task) -> i64 {
+    1 + floor(s, j.t)
 }
 
-fn start(tasks: &[Task], i: Task, b: i64, k: i64) -> Option<i64> {
+fn start(tasks: &[Task], i: Task, k: i64) -> Option<i64> {
+    let b = blocking(tasks, i);
     let side = |s: i64| {
         let higher = tasks.iter().filter(|j| j.p < i.p);
-        b + k * i.c + higher.map(|j| started(b, s, j) * j.c).sum::<i64>()
+        b + k * i.c + higher.map(|j| started(s, j) * j.c).sum::<i64>()
     };
     (0..=HORIZON).find(|s| *s == side(*s))
 }
 
-fn finish(tasks: &[Task], i: Task, b: i64, s: i64) -> Option<i64> {
+fn finish(tasks: &[Task], i: Task, s: i64) -> Option<i64> {
+    finish_with(tasks, i, s, &started)
+}
+
+/// F by this count of the jobs that have come by S.
+fn finish_with(
+    tasks: &[Task],
+    i: Task,
+    s: i64,
+    started: &dyn Fn(i64, &Task) -> i64,
+) -> Option<i64> {
     let side = |f: i64| {
         let higher = tasks.iter().filter(|j| j.p < i.h);
         s + i.c
             + higher
-                .map(|j| (ceil(f, j.t) - started(b, s, j)) * j.c)
+                .map(|j| (ceil(f, j.t) - started(s, j)) * j.c)
                 .sum::<i64>()
     };
     (s + 1..=HORIZON).find(|f| *f == side(*f))
 }
 
+/// How many jobs are looked at.
+fn jobs(tasks: &[Task], i: Task) -> Option<i64> {
+    Some(ceil(active_period(tasks, i)?, i.t))
+}
+
 fn response(tasks: &[Task], i: Task) -> Option<i64> {
-    let b = blocking(tasks, i);
-    let l = active_period(tasks, i, b)?;
-    let differences: Option<Vec<i64>> = (0..=ceil(l, i.t) - 1)
-        .map(|k| Some(finish(tasks, i, b, start(tasks, i, b, k)?)? - k * i.t))
+    let differences: Option<Vec<i64>> = (0..=jobs(tasks, i)? - 1)
+        .map(|k| Some(finish(tasks, i, start(tasks, i, k)?)? - k * i.t))
         .collect();
     differences?.into_iter().max()
 }
@@ -107,6 +125,32 @@ fn tolerance(tasks: &[Task], i: Task) -> i64 {
 pub fn all_tolerances(table: &Table) -> Vec<i64> {
     let tasks = tasks_of(table);
     tasks.iter().map(|i| tolerance(&tasks, *i)).collect()
+}
+
+/// The largest q, from 0 up, that is no more than the cost and no more than a tick above each
+/// tolerance of a higher task.
+fn length(tasks: &[Task], k: Task) -> i64 {
+    let higher: Vec<i64> = tasks
+        .iter()
+        .filter(|i| i.p < k.p)
+        .map(|i| tolerance(tasks, *i))
+        .collect();
+    let may_be = |q: &i64| *q <= k.c && higher.iter().all(|tolerance| *q <= tolerance + 1);
+    (0..).take_while(may_be).last().expect("0 may be")
+}
+
+/// The lengths, or the record that stands in their way.
+pub fn all_lengths(table: &Table) -> Result<Vec<i64>, Refusal> {
+    for (k, tolerance) in all_tolerances(table).into_iter().enumerate() {
+        if tolerance < 0 {
+            return Err(Refusal {
+                number: 16,
+                record: Some(k + 1),
+            });
+        }
+    }
+    let tasks = tasks_of(table);
+    Ok(tasks.iter().map(|k| length(&tasks, *k)).collect())
 }
 
 /// A small table that asks for 60 to 105 hundredths of the processor, more or less, so that long
@@ -166,10 +210,7 @@ fn response_times_of_many_value_by_value() {
 
 /// How many tasks have a response time that their first job does not show.
 fn count_later_job_worse(tasks: &[Task], times: &[Option<i64>]) -> usize {
-    let first_job = |i: Task| {
-        let b = blocking(tasks, i);
-        finish(tasks, i, b, start(tasks, i, b, 0)?)
-    };
+    let first_job = |i: Task| finish(tasks, i, start(tasks, i, 0)?);
     tasks
         .iter()
         .zip(times)
@@ -214,6 +255,70 @@ fn tolerances_value_by_value() {
         assert_eq!(tolerances(&table), Ok(all), "{table:?}");
     }
     assert!(below_zero > 0);
+}
+
+/// Deadlines at or below the periods, and loads at which some tolerances are small and not all of
+/// the tables are turned away.
+#[test]
+fn lengths_value_by_value() {
+    let mut dice = Dice::new(8);
+    let (mut answered, mut below_cost, mut of_one) = (0, 0, 0);
+    for _ in 0..1000 {
+        let n = dice.from_to(1, 8);
+        let hundredths = dice.from_to(20, 70);
+        let mut table = table_of_load(&mut dice, n, hundredths);
+        for record in &mut table.records {
+            record.deadline = record.deadline.min(record.period);
+        }
+        let all = all_lengths(&table);
+        assert_eq!(lengths(&table), all, "{table:?}");
+        for (task, length) in table.tasks().iter().zip(all.unwrap_or_default()) {
+            answered += 1;
+            below_cost += (length < task.cost as i64) as usize;
+            of_one += (length == 1 && task.cost > 1) as usize;
+        }
+    }
+    assert!(
+        answered > 500 && below_cost > 50 && of_one > 10,
+        "{answered} {below_cost} {of_one}"
+    );
+}
+
+/// No job starts at an arrival of a higher task. At such an S the count of arrivals has just gone
+/// up, so one tick before it the sum was smaller by a cost at least, and S would not be the
+/// smallest that bears its sum. A job that only waits for higher ones can't start at 0 either.
+/// So at each start both forms of `started` are the same number, and whether F reads the ceiling
+/// or 1 + floor can't be seen in any answer: this test is all that there is to see of it. It tries
+/// the equations as they stand in this file.
+#[test]
+fn no_job_starts_at_an_arrival() {
+    let mut dice = Dice::new(9);
+    let (mut starts, mut blocked, mut cut) = (0, 0, 0);
+    for _ in 0..600 {
+        let n = dice.from_to(2, 6);
+        let hundredths = dice.from_to(40, 98);
+        let table = table_of_load(&mut dice, n, hundredths);
+        let tasks = tasks_of(&table);
+        for i in &tasks {
+            for k in 0..jobs(&tasks, *i).unwrap_or(0) {
+                let Some(s) = start(&tasks, *i, k) else {
+                    continue;
+                };
+                for j in tasks.iter().filter(|j| j.p < i.p) {
+                    assert_ne!(s % j.t, 0, "job {k} of {}: {table:?}", i.p);
+                }
+                let by_ceiling = finish_with(&tasks, *i, s, &|s, j| ceil(s, j.t));
+                assert_eq!(by_ceiling, finish(&tasks, *i, s), "{table:?}");
+                starts += 1;
+                blocked += (largest_cost_in_the_way(&tasks, *i) > 0) as usize;
+                cut += (i.h > 1) as usize;
+            }
+        }
+    }
+    assert!(
+        starts > 2000 && blocked > 500 && cut > 500,
+        "{starts} {blocked} {cut}"
+    );
 }
 
 /// Every run of 2n numbers from 0 to n, in order, kept if it is a well-formed assignment that

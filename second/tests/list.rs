@@ -125,7 +125,7 @@ fn more_rows_than_are_printed() {
 /// A row that fails is no row that follows.
 #[test]
 fn rows_that_fail_behind_the_last() {
-    let only = [(2, 5, 5), (4, 10, 10)];
+    let only = [(2, 5, 4), (4, 10, 10)];
     assert_eq!(printed(&only, 1), "tasks 2\n1 2 1 2\nend 1\n");
     assert_eq!(printed(&only, 0), "tasks 2\nmore\n");
     assert_eq!(printed(&[(2, 5, 1), (4, 10, 10)], 0), "tasks 2\nend 0\n");

@@ -83,6 +83,19 @@ fn an_answer_of_another_call_fails() {
     }
 }
 
+/// No task is left without a single tick: a length of 0 is no answer.
+#[test]
+fn a_length_of_0_fails() {
+    let table = assigned(&[(2, 5, 2), (4, 10, 10)], &[1, 2], &[1, 2]);
+    let mut body = Vec::new();
+    generate::put_table(&mut body, &table);
+    let stream = [&[5][..], &(body.len() as u16).to_be_bytes(), &body].concat();
+    assert_eq!(answers(&stream), b"lengths 2 1\n");
+    assert_eq!(missing(&stream, b"lengths 2 1\n"), None);
+    let said = missing(&stream, b"lengths 2 0\n").expect("a failure");
+    assert_eq!(said, "request 1: lengths can't answer `lengths 2 0`");
+}
+
 #[test]
 fn an_unanswered_request_fails() {
     let stream = requests(5, 1).concat();
@@ -159,7 +172,7 @@ fn searches_are_short() {
 /// The walk comes to a row, or to the end, at just this many rows and at none fewer.
 #[test]
 fn how_near_a_row_is() {
-    for (deadline, rows) in [(6, 1), (5, 2), (1, 4)] {
+    for (deadline, rows) in [(6, 1), (5, 1), (4, 2), (1, 4)] {
         let table = unassigned(&[(2, 5, deadline), (4, 10, 10)]);
         for tried in 0..6 {
             assert_eq!(Walk::from_start(&table).is_near(tried), tried >= rows);

@@ -1,6 +1,6 @@
 //! The samples: each is what its description makes, and is what its description says.
 
-use super::brute::{all_tolerances, responses};
+use super::brute::{all_lengths, all_tolerances, responses};
 use super::*;
 use crate::analysis::{passes, response_times, Tasks};
 use crate::checks::Refusal;
@@ -106,9 +106,10 @@ fn two_jobs() {
 fn two_jobs_assigned() {
     let (table, own) = cabinet(&TWO_JOBS_ASSIGNED, &[]).expect("refused");
     assert_eq!(response_times(&table), Ok(vec![Some(2), Some(8)]));
-    assert_eq!(lengths(&table), Ok(vec![2, 3]));
+    assert_eq!(lengths(&table), Ok(vec![2, 4]));
     assert_eq!(regions_fit(&table, &own, &[]), Ok(true));
-    assert_eq!(listed(&TWO_JOBS_ASSIGNED), "tasks 2\n1 2 1 2\nend 1\n");
+    let text = "tasks 2\n1 2 1 1\n1 2 1 2\nend 2\n";
+    assert_eq!(listed(&TWO_JOBS_ASSIGNED), text);
 }
 
 #[test]
@@ -120,14 +121,17 @@ fn damaged() {
 #[test]
 fn packer_six() {
     let (table, own) = cabinet(&PACKER_SIX, &[]).expect("refused");
-    let times = [2, 13, 26, 28, 88, 98].map(Some).to_vec();
+    let times = [2, 10, 20, 27, 87, 98].map(Some).to_vec();
+    assert_eq!(responses(&table), times);
     assert_eq!(response_times(&table), Ok(times));
     assert!(passes(&Tasks::of(&table)));
-    assert_eq!(lengths(&table), Ok(vec![2, 3, 4, 4, 4, 4]));
+    let longest = Ok(vec![2, 3, 5, 5, 5, 5]);
+    assert_eq!(all_lengths(&table), longest);
+    assert_eq!(lengths(&table), longest);
     assert_eq!(regions_fit(&table, &own, &[]), Ok(true));
     let text = listed(&PACKER_SIX);
-    assert!(text.contains("\n1 2 3 4 5 6 1 2 3 2 3 5\n") && text.ends_with("\nend 546\n"));
-    assert_eq!(text.lines().count(), 548);
+    assert!(text.contains("\n1 2 3 4 5 6 1 2 3 2 3 5\n") && text.ends_with("\nend 710\n"));
+    assert_eq!(text.lines().count(), 712);
 }
 
 /// How many rows a sample lists, which is what it says at the end.
@@ -155,10 +159,13 @@ fn tight_six() {
 fn press_eight() {
     let catalogue = words_of(PRESS_EIGHT_CATALOGUE);
     let (table, own) = cabinet(&PRESS_EIGHT, &catalogue).expect("refused");
-    let times = [2, 7, 15, 80, 35, 20, 113, 113].map(Some).to_vec();
+    let times = [2, 6, 14, 79, 34, 19, 112, 113].map(Some).to_vec();
+    assert_eq!(responses(&table), times);
     assert_eq!(response_times(&table), Ok(times));
     assert!(passes(&Tasks::of(&table)));
-    assert_eq!(lengths(&table), Ok(vec![2, 2, 3, 8, 9, 4, 6, 10]));
+    let longest = Ok(vec![2, 2, 3, 8, 9, 4, 6, 11]);
+    assert_eq!(all_lengths(&table), longest);
+    assert_eq!(lengths(&table), longest);
     assert_eq!(regions_fit(&table, &own, &catalogue), Ok(true));
     assert_eq!(listed(&PRESS_EIGHT), "refused 11\n");
 }
@@ -167,15 +174,16 @@ fn press_eight() {
 fn packer_fifteen() {
     let catalogue = words_of(PACKER_FIFTEEN_CATALOGUE);
     let (table, own) = cabinet(&PACKER_FIFTEEN, &catalogue).expect("refused");
-    let times = [2, 2, 6, 9, 14, 17, 33, 37, 58, 70, 78, 96, 197, 267, 280];
+    let times = [1, 2, 5, 8, 13, 16, 30, 36, 40, 69, 75, 95, 196, 266, 280];
     assert_eq!(response_times(&table), Ok(times.map(Some).to_vec()));
     assert_eq!(responses(&table), times.map(|time| Some(time as i64)));
     assert!(passes(&Tasks::of(&table)));
     let ticks = [5, 6, 10, 13, 13, 18, 15, 22, 6, 15, 25, 10, 33, 38, 41];
     assert_eq!(tolerances(&table), Ok(ticks.to_vec()));
     assert_eq!(all_tolerances(&table), ticks);
-    let longest = [1, 1, 2, 2, 3, 3, 3, 5, 4, 3, 4, 5, 5, 5, 5];
+    let longest = [1, 1, 2, 2, 3, 3, 3, 6, 4, 3, 4, 6, 6, 5, 6];
     assert_eq!(lengths(&table), Ok(longest.to_vec()));
+    assert_eq!(all_lengths(&table), Ok(longest.to_vec()));
     assert_eq!(regions_fit(&table, &own, &catalogue), Ok(true));
     assert_eq!(listed(&PACKER_FIFTEEN), "refused 11\n");
 }

@@ -2,6 +2,7 @@
 use Prim.Native.Nat.{ℕ, _<_}
 use mathlib.Core.Path.{_≡_, refl}
 use mathlib.Core.Bool.{_&&_, cond}
+use native.Mathlib.Omega.{arith}
 use lib.Dec.{leb, ltb}
 use Rattle.paper.specs.Vocabulary.{maxTo}
 use Rattle.paper.specs.Numbers.{mostTicks, Assignment}
@@ -37,7 +38,7 @@ module _ (y : Tasks) (a : Assignment) where
           rw e
           (record {
             among = l;
-            blocked = max-bound (y .n) mostTicks _ (λ j m. part-bound (blocks a i j) (r .costs j m .1));
+            blocked = omega (arith, max-bound (y .n) mostTicks _ (λ j m. part-bound (blocks a i j) (r .costs j m .1)));
             place = refl;
             small = q .priorities i l .1;
           })

@@ -1,42 +1,25 @@
 -- L, S and F are each the solution of such an equation, and each may be climbed to from where the code starts.
 use Prim.Native.Nat.{ℕ, zero, suc, _+_, _-_, _*_, _≤_, _<_, zero-le}
 use mathlib.Core.Path.{_≡_, ap, sym, _∙_, fun-ext}
-use mathlib.Core.Bool.{Bool, true, false, cond}
 use native.Mathlib.Omega.{arith}
 use native.Mathlib.Numerals.{add-one}
 use native.Mathlib.Nat.{le-refl, mul-le-mul, add-mul, one-mul}
 use borrow.Author.Tests.{le-leb, eqb-true}
 use lib.Dec.{leb, ltb, eqb, leb·suc-suc}
 use Rattle.paper.specs.Numbers.{mostTicks, horizon, Assignment}
-use Rattle.paper.specs.Analysis.{Tasks, before, by, started, load, levelSum, levelOf, startSum, startOf, finishSum, finishOf}
+use Rattle.paper.specs.Analysis.{Tasks, before, by, load, levelSum, levelOf, startSum, startOf, finishSum, finishOf}
 use Rattle.paper.specs.declared.Time.the-variants.{At}
 use Rattle.paper.proofs.Searched.{searched}
 use Rattle.paper.proofs.Responses.{first-job}
-use Rattle.laws.proofs.Least.{Mono, fixed, least-same, under-skip, under-larger}
+use Rattle.laws.proofs.Least.{fixed, least-same, under-skip, under-larger}
 use Rattle.laws.proofs.Arrivals.{before-le, by-is, load-same, load-part, load-less}
+use Rattle.laws.proofs.Rising.{start-le}
 use Rattle.columns.specs.Columns.{Ranged}
 use Rattle.climb.specs.Work.{work, side, solution, Rises}
 use Rattle.climb.specs.declared.Equation.{Equation}
-use Rattle.climb.proofs.Works.{work-le, side-le}
-use Rattle.jobs.specs.Stands.{standBy, Stands, edge, Climbs}
+use Rattle.climb.proofs.Works.{work-le}
+use Rattle.jobs.specs.Stands.{standBy, Stands, Climbs}
 use Rattle.jobs.specs.declared.Stand.{Stand}
-
--- jobs started by x are those asked for before x + edge
-started-is : (y : Tasks) (b x j : ℕ) → 1 ≤ y .t j → started y b x j ≡ before y (x + edge b) j
-unfolding started edge
-started-is y b x j h = go (ltb 0 b)
-  where
-    go : (v : Bool) → cond v (before y x j) (by y x j) ≡ before y (x + cond v 0 1) j
-    go true = let e : x + 0 ≡ x = omega arith in rw e
-    go false = by-is y j h x
-
-pub edge-small : (b : ℕ) → edge b ≤ 1
-unfolding edge
-edge-small b = go (ltb 0 b)
-  where
-    go : (v : Bool) → cond v 0 1 ≤ 1
-    go true = zero-le
-    go false = le-refl 1
 
 -- `p ≤ own` as `p < own + 1`
 limit-up : (p own : ℕ) → ltb p (own + 1) ≡ leb p own
@@ -45,16 +28,17 @@ limit-up p own = simp (add-one, leb·suc-suc)
 abbrev levelBy : Stand → Equation
 levelBy s = record { limit = s .p + 1; base = s .b; off = 0; edge = 0 }
 
-abbrev startBy : Stand → ℕ → ℕ → Equation
-startBy s base first = record { limit = s .p; base = base; off = 0; edge = first }
+abbrev startBy : Stand → ℕ → Equation
+startBy s base = record { limit = s .p; base = base; off = 0; edge = 1 }
 
 abbrev finishBy : Stand → ℕ → ℕ → Equation
 finishBy s base off = record { limit = s .h; base = base; off = off; edge = 0 }
 
 module _ (y : Tasks) (a : Assignment) (r : Ranged y) (s : Stand) where
-  started-work : (limit x : ℕ) → load y (λ j. ltb (a .p j) limit) (started y (s .b) x) ≡ work y a limit (x + edge (s .b))
+  -- the jobs asked for by x are those before x + 1
+  by-work : (limit x : ℕ) → load y (λ j. ltb (a .p j) limit) (by y x) ≡ work y a limit (x + 1)
   unfolding work
-  started-work limit x = load-same y _ _ _ (λ j l. started-is y (s .b) x j (r .periods j l .0))
+  by-work limit x = load-same y _ _ _ (λ j l. by-is y j (r .periods j l .0) x)
 
   -- L
 
@@ -98,32 +82,28 @@ module _ (y : Tasks) (a : Assignment) (r : Ranged y) (s : Stand) where
   -- S of job k of task i
 
   module _ (i k : ℕ) where
-    start-side : (x : ℕ) → side y a (startBy s (s .b + k * y .c i) (edge (s .b))) x ≡ startSum y (standBy a s) i k x
+    start-side : (x : ℕ) → side y a (startBy s (s .b + k * y .c i)) x ≡ startSum y (standBy a s) i k x
     unfolding side startSum
-    start-side x = omega (arith, started-work (s .p) x)
-
-    start-le : Mono (startSum y (standBy a s) i k)
-    start-le x z h =
-        omega (arith, start-side x, start-side z, side-le y a (startBy s (s .b + k * y .c i) (edge (s .b))) x z h)
+    start-side x = omega (arith, by-work (s .p) x)
 
     pub start-range : (v : ℕ) → startOf y (standBy a s) i k ≡ At v → v ≤ horizon
     unfolding startOf
     start-range v e = omega (arith, searched _ 0 (horizon + 1) v e .high)
 
-    module _ (from first own : ℕ) (f : first ≡ edge (s .b)) (c : own ≡ y .c i) (up : Climbs (startSum y (standBy a s) i k) from) where
-      pub start-is : solution y a (startBy s (s .b + k * own) first) from ≡ startOf y (standBy a s) i k
+    module _ (from own : ℕ) (c : own ≡ y .c i) (up : Climbs (startSum y (standBy a s) i k) from) where
+      pub start-is : solution y a (startBy s (s .b + k * own)) from ≡ startOf y (standBy a s) i k
       unfolding solution startOf
       start-is =
-          rw (f, c) (least-same _ _ from (horizon + 1 - from) (λ x _. ap (eqb x) (start-side x)))
+          rw c (least-same _ _ from (horizon + 1 - from) (λ x _. ap (eqb x) (start-side x)))
           ∙ sym (under-skip _ 0 from (horizon + 1) (λ x _ e. up .under x e) zero-le)
 
-      pub start-rises : i < y .n → s .b ≤ mostTicks → k ≤ horizon → Rises y a (startBy s (s .b + k * own) first) from
+      pub start-rises : i < y .n → s .b ≤ mostTicks → k ≤ horizon → Rises y a (startBy s (s .b + k * own)) from
       start-rises l b m =
           record {
             base = rw c (omega (arith, mul-le-mul {n₂ = horizon} {m₂ = mostTicks} m (r .costs i l .1)));
-            edge = rw f (edge-small (s .b));
+            edge = le-refl 1;
             off = zero-le;
-            rise = rw (f, c) (omega (arith, start-side from, up .rises));
+            rise = rw c (omega (arith, start-side from, up .rises));
           }
 
   -- job 0 starts at 0 or later
@@ -143,20 +123,20 @@ module _ (y : Tasks) (a : Assignment) (r : Ranged y) (s : Stand) where
       let q : v ≡ this v = eqb-true v (this v) (searched (fixed this) 0 (horizon + 1) v e .hit) in
       let m : next v ≡ v + y .c i = omega (arith, start-next i k v) in
       record {
-        rises = omega (arith, start-le i (k + 1) v (v + y .c i) (omega arith));
+        rises = omega (arith, start-le y (standBy a s) i (k + 1) v (v + y .c i) (omega arith));
         under =
             λ x f.
             omega (
               arith,
-              under-larger this next 0 (horizon + 1) v (start-le i k) (start-le i (k + 1)) zero-le (λ z. omega (arith, start-next i k z)) e x zero-le f,
+              under-larger this next 0 (horizon + 1) v (start-le y (standBy a s) i k) (start-le y (standBy a s) i (k + 1)) zero-le (λ z. omega (arith, start-next i k z)) e x zero-le f,
             );
       }
 
   -- F of a job of task i that starts at `begun`
 
-  module _ (i begun off own : ℕ) (o : off ≡ work y a (s .h) (begun + edge (s .b))) (c : own ≡ y .c i) where
+  module _ (i begun off own : ℕ) (o : off ≡ work y a (s .h) (begun + 1)) (c : own ≡ y .c i) where
     off-before : (x : ℕ) → begun < x → off ≤ work y a (s .h) x
-    off-before x l = omega (arith, work-le y a (s .h) (begun + edge (s .b)) x (omega (arith, edge-small (s .b))))
+    off-before x l = omega (arith, work-le y a (s .h) (begun + 1) x (omega arith))
 
     finish-side : (x : ℕ) → begun < x → side y a (finishBy s (begun + own) off) x ≡ finishSum y (standBy a s) i begun x
     unfolding side finishSum work
@@ -165,8 +145,8 @@ module _ (y : Tasks) (a : Assignment) (r : Ranged y) (s : Stand) where
         rw e
         (omega (
           arith,
-          started-work (s .h) begun,
-          load-less y (λ j. ltb (a .p j) (s .h)) (before y x) (started y (s .b) begun) (λ j m. rw (started-is y (s .b) begun j (r .periods j m .0)) (before-le y j (begun + edge (s .b)) x (omega (arith, edge-small (s .b))))),
+          by-work (s .h) begun,
+          load-less y (λ j. ltb (a .p j) (s .h)) (before y x) (by y begun) (λ j m. rw (by-is y j (r .periods j m .0) begun) (before-le y j (begun + 1) x (omega arith))),
         ))
 
     pub finish-is : solution y a (finishBy s (begun + own) off) (begun + 1) ≡ finishOf y (standBy a s) i begun

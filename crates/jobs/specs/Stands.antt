@@ -1,7 +1,6 @@
 -- Where a task stands, and when its jobs run.
-use Prim.Native.Nat.{ℕ, _≤_, _<_}
+use Prim.Native.Nat.{ℕ, _-_, _≤_, _<_}
 use mathlib.Core.Path.{_≡_}
-use mathlib.Core.Bool.{cond}
 use lib.Dec.{leb, ltb}
 use Rattle.paper.specs.Numbers.{mostTasks, mostTicks, Assignment}
 use Rattle.paper.specs.Analysis.{Tasks, Standing, before, blocking, levelOf, startOf, finishOf}
@@ -22,7 +21,7 @@ standBy a s =
     }
 
 abbrev pub standOf : Tasks → Assignment → ℕ → Stand
-standOf y a i = record { i = i; b = blocking y a i; p = a .p i; h = a .h i }
+standOf y a i = record { i = i; b = blocking y a i - 1; p = a .p i; h = a .h i }
 
 -- a task of y stands so
 pub record Stands (y : Tasks) (a : Assignment) (s : Stand) : Type 0 where
@@ -30,10 +29,6 @@ pub record Stands (y : Tasks) (a : Assignment) (s : Stand) : Type 0 where
   pub blocked : s .b ≤ mostTicks
   pub place : s .p ≡ a .p (s .i)
   pub small : s .p ≤ mostTasks
-
--- 0 where a start is blocked, else 1: jobs asked for at the start itself have come before it where nothing blocks
-unfoldable pub edge : ℕ → ℕ
-edge b = cond (ltb 0 b) 0 1
 
 -- a place from which to climb to the least fixed point of f: none lies below it
 pub record Climbs (f : ℕ → ℕ) (from : ℕ) : Type 0 where

@@ -5,14 +5,14 @@ use columns::Tasks;
 use paper::Time;
 ghost use mathlib.Core.Path.{_≡_};
 ghost use mathlib.Core.Bool.{cond, _&&_};
-ghost use Prim.Native.Nat.{_<_, _≤_, max};
+ghost use Prim.Native.Nat.{_-_, _<_, _≤_, max};
 ghost use lib.Dec.{leb, ltb};
 ghost use Rattle.paper.specs.Numbers.{mostTasks, horizon};
 ghost use Rattle.paper.specs.Analysis.{blocking, levelOf, startSum, startOf, finishOf};
 ghost use Rattle.columns.specs.Columns.{tasksBy, assignedBy, rankedBy, Ranged};
-ghost use Rattle.jobs.specs.Stands.{standBy, standOf, Stands, edge, Climbs, spanOf, jobCount};
+ghost use Rattle.jobs.specs.Stands.{standBy, standOf, Stands, Climbs, spanOf, jobCount};
 
-// Where a task stands: its number i, its blocking B, its priority and its threshold.
+// Where a task stands: its number i, how long b it is blocked, its priority and its threshold.
 pub struct Stand {
     pub i: usize,
     pub b: u64,
@@ -30,6 +30,13 @@ pub fn larger(a: u64, b: u64) -> u64
     ensures { λ r. ⌜ r ≡ max a b ⌝ }
 {
     if a < b { b } else { a }
+}
+
+// f less r, or 0.
+pub fn less(f: u64, r: u64) -> u64
+    ensures { λ v. ⌜ v ≡ f - r ⌝ }
+{
+    if r < f { f - r } else { 0 }
 }
 
 // What one task adds to the blocking of a task of priority `own`.
@@ -57,7 +64,8 @@ pub fn stand_of(n: usize, y: &Tasks, p: &Numbers, h: &Numbers, i: usize) -> Stan
     requires { ⌜ (i < n) × (n ≤ mostTasks) ⌝ }
     ensures { λ r. ⌜ r ≡ standOf (tasksBy n (now (y .entry))) (assignedBy (now (p .entry)) (now (h .entry))) i ⌝ }
 {
-    let b = blocking(n, y, p, h, i);
+    // A blocker has run for a tick when the task arrives.
+    let b = less(blocking(n, y, p, h, i), 1);
     let priority = p[i];
     let threshold = h[i];
     Stand {
@@ -66,12 +74,6 @@ pub fn stand_of(n: usize, y: &Tasks, p: &Numbers, h: &Numbers, i: usize) -> Stan
         p: priority,
         h: threshold,
     }
-}
-
-fn edge(b: u64) -> u64
-    ensures { λ r. ⌜ r ≡ edge b ⌝ }
-{
-    if 0 < b { 0 } else { 1 }
 }
 
 // L. The task counts itself, so that L is above 0.
@@ -103,7 +105,7 @@ pub fn job_count(n: usize, y: &Tasks, p: &Numbers, s: Stand) -> Time
     Time::At(many)
 }
 
-// S of job k, which is known to be at least `from`.
+// S of job k, which is known to be at least `from`. Jobs that are asked for at S itself go first: the edge.
 fn start(n: usize, y: &Tasks, p: &Numbers, s: Stand, k: u64, from: u64) -> Time
     requires { ⌜ Ranged (tasksBy n (now y)) × Stands (tasksBy n (now y)) (rankedBy (now p)) s × (k ≤ horizon) ⌝ }
     requires { ⌜ Climbs (startSum (tasksBy n (now y)) (standBy (rankedBy (now p)) s) (s .i) k) from ⌝ }
@@ -111,23 +113,21 @@ fn start(n: usize, y: &Tasks, p: &Numbers, s: Stand, k: u64, from: u64) -> Time
 {
     let own = columns::cost(y, s.i);
     let base = s.b + k * own;
-    let first = edge(s.b);
     let e = Equation {
         limit: s.p,
         base: base,
         off: 0,
-        edge: first,
+        edge: 1,
     };
     climb::solve(n, y, p, e, from)
 }
 
-// F of a job that starts at `begun`.
+// F of a job that starts at `begun`. What was asked for by then, at `begun` too, had started: it is taken off.
 fn finish(n: usize, y: &Tasks, p: &Numbers, s: Stand, begun: u64) -> Time
     requires { ⌜ Ranged (tasksBy n (now y)) × Stands (tasksBy n (now y)) (rankedBy (now p)) s × (begun ≤ horizon) ⌝ }
     ensures { λ r. ⌜ r ≡ finishOf (tasksBy n (now (y .entry))) (standBy (rankedBy (now (p .entry))) s) (s .i) begun ⌝ }
 {
-    let first = edge(s.b);
-    let off = climb::work(n, y, p, s.h, begun + first);
+    let off = climb::work(n, y, p, s.h, begun + 1);
     let own = columns::cost(y, s.i);
     let base = begun + own;
     let e = Equation {

@@ -5,7 +5,7 @@ use mathlib.Core.Bool.{Bool, not, cond, _&&_}
 use native.Mathlib.Omega.{arith}
 use lib.Dec.{leb, ltb, eqb}
 use Rattle.paper.specs.Numbers.{horizon, eachOnce, Assignment, thresholdsHold}
-use Rattle.paper.specs.Analysis.{Tasks, Standing, before, started, load, blocks, blocking, standing, levelSum, levelOf, startSum, startOf, finishSum, finishOf, finishFrom, job, later, worst, worstFrom, response, within, taskPasses, passes}
+use Rattle.paper.specs.Analysis.{Tasks, Standing, before, load, blocks, blocking, standing, levelSum, levelOf, startSum, startOf, finishSum, finishOf, finishFrom, job, later, worst, worstFrom, response, within, taskPasses, passes}
 use Rattle.paper.specs.declared.Time.{Time}
 use Rattle.paper.specs.declared.Time.the-variants.{At, Beyond}
 use Rattle.laws.proofs.Every.{every-same, sum-same}
@@ -37,16 +37,13 @@ module _ (y : Tasks) where
       unfolding startOf startSum
       start-agree k =
           least-same _ _ 0 (horizon + 1) (λ x _.
-          ap (eqb x)
-          (ap₂ _+_ (ap (λ b. b + k * y .c i) (v .b))
-          (load-agree _ _ _ (v .above) ∙ ap (λ b. load y (u .above) (started y b x)) (v .b))))
+          ap (eqb x) (ap₂ _+_ (ap (λ b. b + k * y .c i) (v .b)) (load-agree _ _ _ (v .above))))
 
       finish-agree : (start : ℕ) → finishOf y s i start ≡ finishOf y u i start
       unfolding finishOf finishSum
       finish-agree start =
           least-same _ _ (start + 1) (horizon - start) (λ x _.
-          ap (λ w. eqb x (start + y .c i + w))
-          (load-agree _ _ _ (v .cuts) ∙ ap (λ b. load y (u .cuts) (λ j. before y x j - started y b start j)) (v .b)))
+          ap (λ w. eqb x (start + y .c i + w)) (load-agree _ _ _ (v .cuts)))
 
       finishes-agree : (start : Time) → finishFrom y s i start ≡ finishFrom y u i start
       unfolding finishFrom
@@ -82,7 +79,7 @@ module _ (y : Tasks) where
     unfolding standing
     standing-agree i l =
         record {
-          b = blocking-agree i l;
+          b = ap (λ (b : ℕ). b - 1) (blocking-agree i l);
           level = λ j m. ap₂ leb (v .p j m) (v .p i l);
           above = λ j m. ap₂ ltb (v .p j m) (v .p i l);
           cuts = λ j m. ap₂ ltb (v .p j m) (v .h i l);

@@ -4,6 +4,8 @@ pub mod Least
 pub mod Sums
 pub mod Agree
 pub mod Arrivals
+pub mod Rising
+pub mod Signed
 pub mod Order
 pub mod Steps
 pub mod Fronts

@@ -6,6 +6,8 @@ use mathlib.Core.Logic.{⊎-elim}
 use native.Mathlib.Omega.{arith}
 use native.Mathlib.Numerals.{add-one}
 use native.Mathlib.Nat.{add-le-add, eq-or-lt-of-le, suc-mul}
+use lib.Dec.{eqb}
+use borrow.Author.Tests.{eqb-true}
 use Rattle.paper.specs.Vocabulary.{sumTo, maxTo}
 
 pub sum-none : (f : ℕ → ℕ) → sumTo 0 f ≡ 0
@@ -34,6 +36,22 @@ sum-part zero f i l = absurd (omega arith)
 sum-part (suc n) f i l =
     let h : i ≤ n = omega arith in
     ⊎-elim (λ e. rw e (omega arith)) (λ m. omega (arith, sum-part n f i m)) (eq-or-lt-of-le h)
+
+-- a sum of which one part counts is at most that part
+pub sum-one : (i v n : ℕ) → sumTo n (λ j. cond (eqb j i) v 0) ≤ v
+unfolding sumTo
+sum-one i v n = upto n .1
+  where
+    upto : (n : ℕ) → (n ≤ i → sumTo n (λ j. cond (eqb j i) v 0) ≡ 0) × (sumTo n (λ j. cond (eqb j i) v 0) ≤ v)
+    upto zero = (λ h. refl, zero-le)
+    upto (suc n) = go (eqb n i) refl (upto n)
+      where
+        rest : ℕ
+        rest = sumTo n (λ j. cond (eqb j i) v 0)
+
+        go : (t : Bool) → eqb n i ≡ t → (n ≤ i → rest ≡ 0) × (rest ≤ v) → (suc n ≤ i → rest + cond t v 0 ≡ 0) × (rest + cond t v 0 ≤ v)
+        go true e w = let q = eqb-true n i e in (λ h. absurd (omega arith), omega (arith, w .0 (omega arith)))
+        go false e w = (λ h. omega (arith, w .0 (omega arith)), omega (arith, w .1))
 
 pub max-none : (f : ℕ → ℕ) → maxTo 0 f ≡ 0
 unfolding maxTo

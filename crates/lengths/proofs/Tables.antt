@@ -1,15 +1,15 @@
 -- What is worked out on a table's columns is what the paper says of its records.
 use Prim.Native.Nat.{ℕ, _<_}
-use mathlib.Core.Path.{_≡_, ap, ap₂}
+use mathlib.Core.Path.{_≡_, ap, ap₂, _∙_}
 use mathlib.Core.List.{List}
-use lib.IntN.{ℤ, pos}
+use lib.IntN.{ℤ, pos, _+ℤ_}
 use lib.ListN.{length, getD}
 use lib.Signed.{ltZ}
 use Rattle.paper.specs.Vocabulary.{every, lowest}
 use Rattle.paper.specs.Numbers.{mostTasks, perTask, rec, assigned, Assignment}
 use Rattle.paper.specs.Analysis.{Tasks, tasksOf}
 use Rattle.paper.specs.Regions.{listOf}
-use Rattle.paper.specs.Lengths.{slack, tolerance, lowestBelowZero, lengthOf, regionsFit, allFit}
+use Rattle.paper.specs.Lengths.{slack, tolerance, lowestBelowZero, allowed, lengthOf, regionsFit, allFit}
 use Rattle.paper.specs.declared.Record.{Record}
 use Rattle.laws.proofs.Every.{every-same, lowest-same}
 use Rattle.laws.proofs.Lists.{per-task-at}
@@ -25,13 +25,18 @@ module _ (rs : List Record) (n : ℕ) {ys ps : List ℕ} (full : length rs ≡ m
   tolerances-by = rw (y, p) (ap₂ tolerancesOf (tasks-by rs n full) (assigned-by rs full))
 
   pub lengths-by : lengthsLeft (tasksBy n ys) (rankedBy ps) ≡ lengthsLeft (tasksOf rs n) (assigned rs)
-  unfolding lowestBelowZero lengthOf tolerance slack
+  unfolding lowestBelowZero lengthOf allowed tolerance slack
   lengths-by = rw (y, p) (ap₂ lengthsLeft (tasks-by rs n full) (assigned-by rs full))
 
 -- the tolerances in an array
 module _ (y : Tasks) (a : Assignment) {ticks : List ℤ} (known : ticks ≡ tolerancesOf y a) where
   pub tick-at : (j : ℕ) → j < y .n → getD ticks j (pos 0) ≡ tolerance y a j
   tick-at j l = rw known (per-task-at (y .n) (tolerance y a) (pos 0) (pos 0) j l)
+
+  -- and what each task allows
+  pub allowed-at : (j : ℕ) {t : ℤ} → j < y .n → t ≡ getD ticks j (pos 0) → t +ℤ pos 1 ≡ allowed y a j
+  unfolding allowed
+  allowed-at j l e = ap (λ (z : ℤ). z +ℤ pos 1) (e ∙ tick-at j l)
 
   pub lowest-by : lowest (y .n) (λ k. ltZ (getD ticks k (pos 0)) (pos 0)) ≡ lowestBelowZero y a
   unfolding lowestBelowZero

@@ -3,7 +3,7 @@ ghost use mathlib.Core.Path.{_≡_};
 ghost use mathlib.Core.Bool.{cond};
 ghost use mathlib.Core.List.{[], _∷_};
 ghost use Prim.Native.Nat.{_≤_, _<_};
-ghost use lib.IntN.{pos};
+ghost use lib.IntN.{pos, _+ℤ_};
 ghost use lib.ListN.{getD};
 ghost use lib.Signed.{ltZ};
 ghost use Rattle.paper.specs.Vocabulary.{lowest};
@@ -41,19 +41,18 @@ fn lowest_below_zero(n: usize, ticks: &Ticks) -> usize
     0
 }
 
-fn smaller_of(a: i64, b: i64) -> i64
-    ensures { λ r. ⌜ r ≡ smaller a b ⌝ }
-{
-    if a <= b { a } else { b }
-}
-
+// The smaller of q and what a task above allows, its tolerance plus 1. Below q there is room for the 1.
 fn narrowed(q: i64, above: bool, tolerance: i64) -> i64
-    ensures { λ r. ⌜ r ≡ cond above (smaller q tolerance) q ⌝ }
+    ensures { λ r. ⌜ r ≡ cond above (smaller q (tolerance +ℤ pos 1)) q ⌝ }
 {
-    if above { smaller_of(q, tolerance) } else { q }
+    if above & (tolerance < q) {
+        tolerance + 1
+    } else {
+        q
+    }
 }
 
-// C(k), or the least tolerance of the tasks above k where that is smaller.
+// C(k), or the least tolerance of the tasks above k plus 1 where that is smaller.
 fn length_of(n: usize, y: &Tasks, p: &Numbers, ticks: &Ticks, k: usize) -> i64
     requires { ⌜ Ranged (tasksBy n (now y)) ⌝ }
     requires { ⌜ now ticks ≡ tolerancesOf (tasksBy n (now y)) (rankedBy (now p)) ⌝ }

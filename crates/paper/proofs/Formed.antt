@@ -1,23 +1,39 @@
 -- A well-formed row, place by place.
 use Prim.Native.Nat.{ℕ, suc, _+_, _-_, _≤_, _<_}
-use native.Mathlib.Decide.{decLe}
+use native.Mathlib.Decide.{decLe, decLt}
 use native.Mathlib.Numerals.{add-one}
 use native.Mathlib.Omega.{arith}
-use mathlib.Core.Path.{_≡_}
-use mathlib.Core.Bool.{Bool, true, false, cond, _&&_}
+use mathlib.Core.Path.{_≡_, ap, sym}
+use mathlib.Core.Bool.{Bool, true, false, not, cond, _&&_}
 use mathlib.Core.List.{List, [], _∷_}
 use mathlib.Core.Logic.{by-cases}
-use lib.Dec.{eqb}
+use lib.Dec.{leb, eqb}
 use lib.ListN.{length, take, getD, length-take}
-use borrow.Author.Tests.{eqb-true}
+use borrow.Author.Tests.{eqb-true, eq-eqb}
+use Rattle.paper.specs.Vocabulary.{every}
 use Rattle.paper.specs.Numbers.{Assignment, eachOnce, thresholdsHold}
 use Rattle.paper.specs.Rows.{rowSize, placeOf, rowAssignment, rowHolds}
-use Rattle.paper.proofs.Tests.{both, within, every-says}
+use Rattle.paper.proofs.Tests.{never, both, within, every-says}
 
 -- `eachOnce` and `thresholdsHold` say of each k
 pub each-once-range : (n : ℕ) (f : ℕ → ℕ) → eachOnce n f ≡ true → (k : ℕ) → k < n → (1 ≤ f k) × (f k ≤ n)
 unfolding eachOnce
 each-once-range n f e k h = within 1 n (f k) (every-says n _ (both _ _ e .0) k h)
+
+pub each-once-fresh : (n : ℕ) (f : ℕ → ℕ) → eachOnce n f ≡ true → (k : ℕ) → k < n → every k (λ j. not (eqb (f j) (f k))) ≡ true
+unfolding eachOnce
+each-once-fresh n f e k h = every-says n _ (both (every n (λ k. leb 1 (f k) && leb (f k) n)) _ e .1) k h
+
+pub each-once-apart : (n : ℕ) (f : ℕ → ℕ) → eachOnce n f ≡ true → (j k : ℕ) → j < n → k < n → f j ≡ f k → j ≡ k
+each-once-apart n f e j k hj hk q = go (decLt j k) (decLt k j)
+  where
+    apart : (j k : ℕ) → j < k → k < n → f j ≡ f k → ⊥
+    apart j k l h s = never _ (every-says k _ (each-once-fresh n f e k h) j l) (ap not (eq-eqb (f j) (f k) s))
+
+    go : Dec (j < k) → Dec (k < j) → j ≡ k
+    go (yes l) _ = absurd (apart j k l hk q)
+    go (no l) (yes m) = absurd (apart k j m hj (sym q))
+    go (no l) (no m) = omega arith
 
 pub threshold-range : (n : ℕ) (a : Assignment) → thresholdsHold n a ≡ true → (k : ℕ) → k < n → (1 ≤ a .h k) × (a .h k ≤ a .p k)
 unfolding thresholdsHold

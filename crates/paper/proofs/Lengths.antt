@@ -1,4 +1,4 @@
--- Tolerances and lengths are what document 01 says they are. Records are counted from 0 here: k is record k + 1.
+-- Tolerances are what document 01 says they are, and lengths what document 02, item 5, does. Records are counted from 0 here: k is record k + 1.
 use Prim.Native.Nat.{ℕ, suc, _-_, _≤_, _<_}
 use mathlib.Core.Path.{_≡_, sym, ap}
 use mathlib.Core.Bool.{Bool}
@@ -6,12 +6,12 @@ use mathlib.Core.Logic.{_↔_, ⊎-elim}
 use native.Mathlib.Omega.{arith}
 use borrow.Author.Tests.{lt-ltb, ltb-true}
 use lib.Dec.{ltb}
-use lib.IntN.{pos, natAbs, _-ℤ_}
+use lib.IntN.{pos, natAbs, _-ℤ_, _+ℤ_}
 use lib.Signed.{ltZ, _≤ℤ_, _<ℤ_, ≤ℤ-refl, yes-nonNeg, pos-natAbs}
 use Rattle.paper.specs.Numbers.{Assignment}
 use Rattle.paper.specs.Analysis.{Tasks, before, load}
-use Rattle.paper.specs.Lengths.{slack, tolerance, lowestBelowZero, lengthOf}
-use Rattle.paper.proofs.Signed.{sub-sum, ≤ℤ-trans, pos-le, le-pos, ltZ-says, ltZ-denies, ltZ-fails}
+use Rattle.paper.specs.Lengths.{slack, tolerance, lowestBelowZero, allowed, lengthOf}
+use Rattle.paper.proofs.Signed.{sub-sum, ≤ℤ-trans, pos-le, le-pos, ltZ-says, ltZ-denies, ltZ-fails, next-positive}
 use Rattle.paper.proofs.Extremes.{largest-bounds, largest-reached, least-start, least-each, least-above, lowest-none, lowest-found, lowest-either}
 
 -- The differences that a tolerance is the largest of: t − C(i) − sum over p(j) < p(i) of ceil(t/T(j))·C(j), by the subtraction of signed numbers, so exact below, at and above zero.
@@ -57,34 +57,40 @@ lowest-zero y a = (
   λ h. lowest-none (λ j. ltZ (tolerance y a j) (pos 0)) (y .n) (λ j l. ltZ-fails (h j l)),
 )
 
--- q is at most C(k), and at most the tolerance of every task above k
+-- q is at most C(k), and at most the tolerance plus 1 of every task above k
 pub record Within (y : Tasks) (a : Assignment) (k q : ℕ) : Type 0 where
   pub cost : q ≤ y .c k
-  pub above : (j : ℕ) → j < y .n → a .p j < a .p k → pos q ≤ℤ tolerance y a j
+  pub above : (j : ℕ) → j < y .n → a .p j < a .p k → pos q ≤ℤ (tolerance y a j +ℤ pos 1)
 
 -- Where no tolerance is below zero, length(k) is a natural number that is so, and the largest that is.
 pub length-largest : (y : Tasks) (a : Assignment) (k : ℕ) → ((j : ℕ) → j < y .n → pos 0 ≤ℤ tolerance y a j)
     → (q : ℕ) × (lengthOf y a k ≡ pos q) × Within y a k q × ((r : ℕ) → Within y a k r → r ≤ q)
-unfolding lengthOf
+unfolding lengthOf allowed
 length-largest y a k none =
     let set : ℕ → Bool = λ j. ltb (a .p j) (a .p k) in
-    let w : pos 0 ≤ℤ lengthOf y a k = least-above set (tolerance y a) (pos (y .c k)) (y .n) (pos 0) (pos-le (omega arith)) (λ j l e. none j l) in
+    let w : pos 0 ≤ℤ lengthOf y a k = least-above set (allowed y a) (pos (y .c k)) (y .n) (pos 0) (pos-le (omega arith)) (λ j l e. ≤ℤ-trans (pos-le (omega arith)) (next-positive (none j l))) in
     let e : pos (natAbs (lengthOf y a k)) ≡ lengthOf y a k = pos-natAbs (lengthOf y a k) (yes-nonNeg w) in
     let b : pos (natAbs (lengthOf y a k)) ≤ℤ lengthOf y a k = rw e (≤ℤ-refl (lengthOf y a k)) in (
       natAbs (lengthOf y a k),
       sym e,
       record {
-        cost = le-pos (≤ℤ-trans b (least-start set (tolerance y a) (pos (y .c k)) (y .n)));
-        above = λ j l h. ≤ℤ-trans b (least-each set (tolerance y a) (pos (y .c k)) (y .n) j l (lt-ltb (a .p j) (a .p k) h));
+        cost = le-pos (≤ℤ-trans b (least-start set (allowed y a) (pos (y .c k)) (y .n)));
+        above = λ j l h. ≤ℤ-trans b (least-each set (allowed y a) (pos (y .c k)) (y .n) j l (lt-ltb (a .p j) (a .p k) h));
       },
       λ r h.
           le-pos
-          (rw e (least-above set (tolerance y a) (pos (y .c k)) (y .n) (pos r) (pos-le (h .cost)) (λ j l t. h .above j l (ltb-true (a .p j) (a .p k) t)))),
+          (rw e (least-above set (allowed y a) (pos (y .c k)) (y .n) (pos r) (pos-le (h .cost)) (λ j l t. h .above j l (ltb-true (a .p j) (a .p k) t)))),
     )
+
+-- A tolerance of 0 allows a tick: where no tolerance is below zero, no length is below 1.
+pub length-positive : (y : Tasks) (a : Assignment) (k : ℕ) → ((j : ℕ) → j < y .n → pos 0 ≤ℤ tolerance y a j) → 1 ≤ y .c k → pos 1 ≤ℤ lengthOf y a k
+unfolding lengthOf allowed
+length-positive y a k none cost =
+    least-above _ (allowed y a) _ (y .n) (pos 1) (pos-le cost) (λ j l e. next-positive (none j l))
 
 -- Thresholds play no part.
 pub thresholds-aside : (y : Tasks) (a b : Assignment) → a .p ≡ b .p → (i : ℕ)
     → (tolerance y a i ≡ tolerance y b i) × (lengthOf y a i ≡ lengthOf y b i)
-unfolding slack tolerance lengthOf
+unfolding slack tolerance allowed lengthOf
 thresholds-aside y a b e i =
     (ap (λ p. tolerance y (record { p = p; h = a .h }) i) e, ap (λ p. lengthOf y (record { p = p; h = a .h }) i) e)

@@ -63,6 +63,14 @@ pos-le {a} {b} h = record { le = le→leb a b h }
 pub le-pos : {a b : ℕ} → pos a ≤ℤ pos b → a ≤ b
 le-pos {a} {b} h = leb→le a b (h .le)
 
+-- one more than a number that isn't below zero
+pub next-positive : {z : ℤ} → pos 0 ≤ℤ z → pos 1 ≤ℤ (z +ℤ pos 1)
+next-positive {z} h = go z h
+  where
+    go : (z : ℤ) → pos 0 ≤ℤ z → pos 1 ≤ℤ (z +ℤ pos 1)
+    go (pos n) h = pos-le (omega arith)
+    go (negsuc n) h = absurd (h .le)
+
 -- the difference of two natural numbers is below zero, or it is not
 pub sub-below : (a b : ℕ) → a < b → subℕ a b ≡ negsuc (b - suc a)
 sub-below a b h = simp (lt-ltb a b h)

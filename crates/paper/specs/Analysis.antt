@@ -1,4 +1,4 @@
--- Document 01, "The analysis": response times. Task i is record i + 1.
+-- Document 01, "The analysis": response times; blocking on a ticking controller by document 02, item 5. Task i is record i + 1.
 use Prim.Native.Nat.{ℕ, zero, suc, _+_, _-_, _*_, _/_, max}
 use mathlib.Core.Bool.{Bool, true, false, _&&_, cond}
 use mathlib.Core.List.{List}
@@ -31,10 +31,6 @@ before y x j = ceilDiv x (y .t j)
 unfoldable pub by : Tasks → ℕ → ℕ → ℕ
 by y x j = 1 + x / y .t j
 
--- started(j) is ceil(S/T(j)) if B > 0, else 1 + floor(S/T(j))
-unfoldable pub started : Tasks → ℕ → ℕ → ℕ → ℕ
-started y b s j = cond (ltb 0 b) (before y s j) (by y s j)
-
 -- sum over the tasks j of a set of count(j)·C(j)
 unfoldable pub load : Tasks → (ℕ → Bool) → (ℕ → ℕ) → ℕ
 load y set count = sumTo (y .n) (λ j. cond (set j) (count j * y .c j) 0)
@@ -46,23 +42,24 @@ blocks a i j = leb (a .h j) (a .p i) && ltb (a .p i) (a .p j)
 unfoldable pub blocking : Tasks → Assignment → ℕ → ℕ
 blocking y a i = maxTo (y .n) (λ j. cond (blocks a i j) (y .c j) 0)
 
--- where a task stands: its blocking B, and which tasks count in L, in S and in F
+-- where a task stands: for how long, b, it is blocked in L and S, and which tasks count in L, in S and in F
 pub record Standing : Type 0 where
   pub b : ℕ
   pub level : ℕ → Bool
   pub above : ℕ → Bool
   pub cuts : ℕ → Bool
 
--- in L those with p(j) ≤ p(i), in S those with p(j) < p(i), in F those with p(j) < h(i)
+-- b is B(i) − 1, or 0 where B(i) is 0: a blocker has run for at least one tick when the higher task arrives.
+-- In L count those with p(j) ≤ p(i), in S those with p(j) < p(i), in F those with p(j) < h(i)
 unfoldable pub standing : Tasks → Assignment → ℕ → Standing
 standing y a i = record {
-  b = blocking y a i;
+  b = blocking y a i - 1;
   level = λ j. leb (a .p j) (a .p i);
   above = λ j. ltb (a .p j) (a .p i);
   cuts = λ j. ltb (a .p j) (a .h i);
 }
 
--- L(i) is the smallest positive L with L = B(i) + sum over p(j) ≤ p(i) of ceil(L/T(j))·C(j)
+-- L(i) is the smallest positive L with L = b + sum over p(j) ≤ p(i) of ceil(L/T(j))·C(j), where b is B(i) − 1, or 0
 unfoldable pub levelSum : Tasks → Standing → ℕ → ℕ
 levelSum y s x = s .b + load y (s .level) (before y x)
 
@@ -70,17 +67,18 @@ levelSum y s x = s .b + load y (s .level) (before y x)
 unfoldable pub levelOf : Tasks → Standing → Time
 levelOf y s = least (λ x. eqb x (levelSum y s x)) 1 horizon
 
--- Start S: the smallest S ≥ 0 with S = B + k·C(i) + sum over p(j) < p(i) of started(j)·C(j)
+-- Start S: the smallest S ≥ 0 with S = b + k·C(i) + sum over p(j) < p(i) of (1 + floor(S/T(j)))·C(j), blocked or not
 unfoldable pub startSum : Tasks → Standing → ℕ → ℕ → ℕ → ℕ
-startSum y s i k x = s .b + k * y .c i + load y (s .above) (started y (s .b) x)
+startSum y s i k x = s .b + k * y .c i + load y (s .above) (by y x)
 
 -- from 0 to H
 unfoldable pub startOf : Tasks → Standing → ℕ → ℕ → Time
 startOf y s i k = least (λ x. eqb x (startSum y s i k x)) 0 (horizon + 1)
 
--- Finish F: the smallest F > S with F = S + C(i) + sum over p(j) < h(i) of (ceil(F/T(j)) − started(j))·C(j); no such difference is below zero, as F > S
+-- Finish F: the smallest F > S with F = S + C(i) + sum over p(j) < h(i) of (ceil(F/T(j)) − started(j))·C(j), where started(j) is 1 + floor(S/T(j)), blocked or not;
+-- no such difference is below zero, as F > S
 unfoldable pub finishSum : Tasks → Standing → ℕ → ℕ → ℕ → ℕ
-finishSum y s i start x = start + y .c i + load y (s .cuts) (λ j. before y x j - started y (s .b) start j)
+finishSum y s i start x = start + y .c i + load y (s .cuts) (λ j. before y x j - by y start j)
 
 -- from S + 1 to H
 unfoldable pub finishOf : Tasks → Standing → ℕ → ℕ → Time

@@ -1,4 +1,5 @@
--- Document 01, "Bench figures": those marked P, as one table of what is asked and what comes out.
+-- Document 01, "Bench figures": those marked P, as document 02, item 5, changes them, as one table of what is asked and what comes out.
+-- The papers' figures would let some wrong rules of item 5 pass. Those marked "ours" stand beside them for that, worked out by hand.
 use Prim.Native.Nat.{ℕ, zero, suc, _+_, _-_}
 use mathlib.Core.Bool.{Bool, true, false, _&&_, cond}
 use mathlib.Core.List.{List, [], _∷_, _++_, map}
@@ -101,6 +102,14 @@ three = table (task 1 10 10 1 1 0 1 ∷ task 9 35 35 2 2 0 1 ∷ task 52 105 105
 abbrev pub table1 : Table
 table1 = table (task 1 7 7 1 1 0 1 ∷ task 8 23 23 2 2 0 1 ∷ task 10 25 25 4 2 0 1 ∷ task 3 33 33 3 2 0 1 ∷ [])
 
+-- ours: A (1,4,4), B (1,10,10), C (4,20,20), that order, thresholds 1 1 2: C blocks B
+abbrev pub blocked : Table
+blocked = table (task 1 4 4 1 1 0 1 ∷ task 1 10 10 2 1 0 1 ∷ task 4 20 20 3 2 0 1 ∷ [])
+
+-- ours: A (1,2,2), B (1,2,2), C (1,10,10), that order, thresholds 1 2 2: A and B leave no tick free, and C blocks B
+abbrev pub full : Table
+full = table (task 1 2 2 1 1 0 1 ∷ task 1 2 2 2 2 0 1 ∷ task 1 10 10 3 2 0 1 ∷ [])
+
 pub record Figure : Type 0 where
   pub asked : Asked
   pub comes : Came
@@ -114,31 +123,38 @@ figures =
     -- A (2,5,5), order A B, thresholds 1 2: R = 2 and 8
     (responseOf (ab 5 2 1) 1 gives number (pos 2)) ∷
     (responseOf (ab 5 2 1) 2 gives number (pos 8)) ∷
-    -- the same, thresholds 1 1: R(A) = 6, R(B) = 6; fails
-    (responseOf (ab 5 1 1) 1 gives number (pos 6)) ∷
+    -- the same, thresholds 1 1: R(A) = 5, R(B) = 6; passes
+    (responseOf (ab 5 1 1) 1 gives number (pos 5)) ∷
     (responseOf (ab 5 1 1) 2 gives number (pos 6)) ∷
-    (passing (ab 5 1 1) gives says false) ∷
-    -- A (2,5,5): the only passing row is 1 2 1 2
-    (rowsOf (ab 5 2 1) gives rows ((1 ∷ 2 ∷ 1 ∷ 2 ∷ []) ∷ [])) ∷
+    (passing (ab 5 1 1) gives says true) ∷
+    -- A (2,5,5): its list has two rows, 1 2 1 1 and 1 2 1 2
+    (rowsOf (ab 5 2 1) gives rows ((1 ∷ 2 ∷ 1 ∷ 1 ∷ []) ∷ (1 ∷ 2 ∷ 1 ∷ 2 ∷ []) ∷ [])) ∷
     -- A (2,5,1): no row passes
     (rowsOf (ab 1 2 1) gives rows []) ∷
-    -- A (2,5,5), order A B: tolerances 3 and 2, lengths 2 and 3
+    -- A (2,5,5), order A B: tolerances 3 and 2, lengths 2 and 4
     (toleranceOf (ab 5 2 1) 1 gives number (pos 3)) ∷
     (toleranceOf (ab 5 2 1) 2 gives number (pos 2)) ∷
     (longest (ab 5 2 1) 1 gives number (pos 2)) ∷
-    (longest (ab 5 2 1) 2 gives number (pos 3)) ∷
-    -- Regions 3+1 for B fit; 4 doesn't
+    (longest (ab 5 2 1) 2 gives number (pos 4)) ∷
+    -- Regions 3+1 for B fit, and so does 4
     (fitting (ab 5 2 2) (2 ∷ 3 ∷ 1 ∷ []) gives says true) ∷
-    (fitting (ab 5 2 1) (2 ∷ 4 ∷ []) gives says false) ∷
-    -- A (2,5,2): length of B is 0. A (2,5,1): refusal 16, record 1
-    (longest (ab 2 2 1) 2 gives number (pos 0)) ∷
+    (fitting (ab 5 2 1) (2 ∷ 4 ∷ []) gives says true) ∷
+    -- A (2,5,2): length of B is 1. A (2,5,1): refusal 16, record 1
+    (longest (ab 2 2 1) 2 gives number (pos 1)) ∷
     (longest (ab 1 2 1) 2 gives refused 16 1) ∷
-    -- source document 001: first two tolerances 9 and 22; third length 9
+    -- ours: with A (2,5,2) regions 1+1+1+1 for B fit; 1+2+1 don't
+    (fitting (ab 2 2 4) (2 ∷ 1 ∷ 1 ∷ 1 ∷ 1 ∷ []) gives says true) ∷
+    (fitting (ab 2 2 3) (2 ∷ 1 ∷ 2 ∷ 1 ∷ []) gives says false) ∷
+    -- source document 001: first two tolerances 9 and 22; third length 10
     (toleranceOf three 1 gives number (pos 9)) ∷
     (toleranceOf three 2 gives number (pos 22)) ∷
-    (longest three 3 gives number (pos 9)) ∷
-    -- Table 1 of 002: first jobs finish at 1, 21, 25, 25
+    (longest three 3 gives number (pos 10)) ∷
+    -- Table 1 of 002: first jobs finish at 1, 20, 25, 24
     (firstFinish table1 1 gives number (pos 1)) ∷
-    (firstFinish table1 2 gives number (pos 21)) ∷
+    (firstFinish table1 2 gives number (pos 20)) ∷
     (firstFinish table1 3 gives number (pos 25)) ∷
-    (firstFinish table1 4 gives number (pos 25)) ∷ []
+    (firstFinish table1 4 gives number (pos 24)) ∷
+    -- ours, the 1 + floor form where something blocks: behind 3 ticks of C and one of A, B would start at 4, but A arrives there. B starts at 5, and R(B) = 6
+    (responseOf blocked 2 gives number (pos 6)) ∷
+    -- ours, a blocker of cost 1: it blocks for no tick. B starts at 1, between two jobs of A, and R(B) = 2; a tick more in L, and B is beyond
+    (responseOf full 2 gives number (pos 2)) ∷ []

@@ -1,9 +1,9 @@
--- Document 01, "The analysis": tolerances, lengths, the region check. Thresholds play no part.
+-- Document 01, "The analysis": tolerances, lengths (document 02, item 5), the region check. Thresholds play no part.
 use Prim.Native.Nat.{ℕ, zero, suc, _+_, _-_}
 use mathlib.Core.Bool.{Bool, cond}
 use mathlib.Core.List.{List}
 use lib.Dec.{ltb}
-use lib.IntN.{ℤ, pos, subℕ}
+use lib.IntN.{ℤ, pos, subℕ, _+ℤ_}
 use lib.ListN.{getD}
 use lib.Signed.{leZ, ltZ}
 use Rattle.paper.specs.Vocabulary.{every, lowest}
@@ -41,9 +41,13 @@ unfoldable pub leastOf : ℕ → (ℕ → Bool) → (ℕ → ℤ) → ℤ → �
 leastOf zero set f x = x
 leastOf (suc n) set f x = cond (set n) (smaller (leastOf n set f x) (f n)) (leastOf n set f x)
 
--- Length(k) is the smaller of C(k) and the least tolerance of the tasks above k (C(k) if none is above)
+-- what task j allows every task below it: its tolerance plus 1
+unfoldable pub allowed : Tasks → Assignment → ℕ → ℤ
+allowed y a j = tolerance y a j +ℤ pos 1
+
+-- Length(k) is the smaller of C(k) and the least higher tolerance plus 1 (C(k) if none is above)
 unfoldable pub lengthOf : Tasks → Assignment → ℕ → ℤ
-lengthOf y a k = leastOf (y .n) (λ j. ltb (a .p j) (a .p k)) (tolerance y a) (pos (y .c k))
+lengthOf y a k = leastOf (y .n) (λ j. ltb (a .p j) (a .p k)) (allowed y a) (pos (y .c k))
 
 -- every region of every task is at most its task's length
 unfoldable pub regionsFit : List ℕ → Record → ℤ → Bool

@@ -12,7 +12,7 @@ use paper::Table;
 use paper::Time;
 use paper::TimesAnswer;
 ghost use mathlib.Core.Path.{_≡_};
-ghost use Prim.Native.Nat.{_-_, _<_, _≤_};
+ghost use Prim.Native.Nat.{_<_, _≤_};
 ghost use lib.ListN.{replicate};
 ghost use Rattle.paper.specs.Numbers.{mostTasks, horizon, perTask};
 ghost use Rattle.paper.specs.Answers.{noTime, timesAnswer};
@@ -20,13 +20,6 @@ ghost use Rattle.paper.specs.Analysis.{worst, taskPasses, passes};
 ghost use Rattle.columns.specs.Columns.{tasksBy, assignedBy, rankedBy, Ranged, Placed};
 ghost use Rattle.jobs.specs.Stands.{standBy, Stands};
 ghost use Rattle.response.specs.Bounds.{bounded, responseOf, answerOf};
-
-// f less r, or 0.
-fn less(f: u64, r: u64) -> u64
-    ensures { λ v. ⌜ v ≡ f - r ⌝ }
-{
-    if r < f { f - r } else { 0 }
-}
 
 // The largest F - k T of the jobs below `count`, or beyond where it is above `most`. Stops at the first job that is.
 fn worst(n: usize, y: &Tasks, p: &Numbers, s: Stand, count: u64, most: u64) -> Time
@@ -43,7 +36,7 @@ fn worst(n: usize, y: &Tasks, p: &Numbers, s: Stand, count: u64, most: u64) -> T
         let Span::Ends(begun, end) = j else {
             return Time::Beyond;
         };
-        let r = less(end, k * period);
+        let r = jobs::less(end, k * period);
         if most < r {
             return Time::Beyond;
         }

@@ -4,19 +4,16 @@ use native.Mathlib.Decide.{decLe}
 use native.Mathlib.Numerals.{add-one}
 use native.Mathlib.Omega.{arith}
 use mathlib.Core.Path.{_≡_, sym, ap, ap₂, _∙_}
-use mathlib.Core.Bool.{true, not, _&&_}
+use mathlib.Core.Bool.{true, not}
 use mathlib.Core.List.{List, _∷_}
 use mathlib.Core.Logic.{by-cases}
-use lib.Dec.{leb, eqb}
+use lib.Dec.{eqb}
 use lib.ListN.{length, take, drop, getD, drop-of-length-le}
 use lib.Seq.{getD-take, take-take, length-take-le, drop-cons}
 use borrow.Author.Tests.{eq-eqb, ne-eqb, lt-ltb, le-ltb, le-leb}
-use Rattle.paper.specs.Vocabulary.{every}
-use Rattle.paper.specs.Numbers.{eachOnce}
 use Rattle.paper.specs.Rows.{rowSize, placeOf}
 use Rattle.laws.specs.Order.{Within}
-use Rattle.paper.proofs.Tests.{both, every-says}
-use Rattle.paper.proofs.Formed.{Formed, formed-threshold, formed-range}
+use Rattle.paper.proofs.Formed.{Formed, each-once-fresh, formed-threshold, formed-range}
 use Rattle.laws.proofs.Every.{every-same}
 use Rattle.laws.proofs.Order.{within-all}
 use Rattle.rows.specs.Places.{freshAt, fitsAt}
@@ -45,18 +42,12 @@ pub formed-within : (n : ℕ) (row : List ℕ) → Formed n row → Within n row
 formed-within n row f = within-all n row (formed-range n row f)
 
 -- and each fits where it stands
-once-fresh : (n : ℕ) (f : ℕ → ℕ) → eachOnce n f ≡ true → (k : ℕ) → k < n → every k (λ j. not (eqb (f j) (f k))) ≡ true
-unfolding eachOnce
-once-fresh n f e k h =
-    every-says n (λ k. every k (λ j. not (eqb (f j) (f k))))
-    (both (every n (λ k. leb 1 (f k) && leb (f k) n)) (every n (λ k. every k (λ j. not (eqb (f j) (f k))))) e .1) k h
-
 pub formed-fits : (n : ℕ) (row : List ℕ) → Formed n row → (k : ℕ) → k < rowSize n → fitsAt n row k ≡ true
 unfolding fitsAt freshAt
 formed-fits n row f k h =
     by-cases (decLe n k)
     (λ l. rw (le-ltb k n l) (le-leb _ _ (formed-threshold n row f k l h .1)))
-    (λ l. rw (lt-ltb k n (omega arith)) (once-fresh n (λ i. getD row i 0) (f .order) k (omega arith)))
+    (λ l. rw (lt-ltb k n (omega arith)) (each-once-fresh n (λ i. getD row i 0) (f .order) k (omega arith)))
 
 -- Lists that begin alike.
 module _ (k : ℕ) (r d : List ℕ) (e : take k r ≡ take k d) where

@@ -1,4 +1,5 @@
-use mathlib.Core.Path.{ap}
+use Prim.Native.Nat.{ℕ, _-_}
+use mathlib.Core.Path.{ap, _∙_}
 use lib.ListN.{getD}
 use borrow.Author.Needs.{needs}
 use Rattle.jobs.proofs.stand_of.Statement.{statement}
@@ -6,6 +7,9 @@ use Rattle.jobs.proofs.stand_of.Tie as tie
 
 blocking-requires : tie.Need-blocking-requires
 blocking-requires c κs = search needs
+
+less-requires : tie.Need-less-requires
+less-requires c κs = search needs
 
 mul-priority : tie.Need-mul-priority
 mul-priority c = search needs
@@ -21,14 +25,16 @@ element-copy-out-threshold c = search needs
 
 returns : tie.Need-returns
 returns c =
-    let a = c .before .before .before .args in
-    ap (λ b. record { i = a .i; b = b; p = getD (a .p .now) (a .i) 0; h = getD (a .h .now) (a .i) 0 }) (c .before .before .blocking .ensures)
+    let a = c .before .before .before .before .args in
+    ap (λ b. record { i = a .i; b = b; p = getD (a .p .now) (a .i) 0; h = getD (a .h .now) (a .i) 0 })
+    (c .before .before .less .ensures ∙ ap (λ (b : ℕ). b - 1) (c .before .before .before .blocking .ensures))
 
 pub stand-of-spec : {M : Type 1} → statement M
 stand-of-spec =
     tie.close
     (tie.spec
     blocking-requires
+    less-requires
     mul-priority
     element-copy-out-priority
     mul-threshold

@@ -1,4 +1,4 @@
--- The invariant: q is the smallest of C(k) and of the tolerances above k among the first j.
+-- The invariant: q is the smallest of C(k) and of what the tasks above k among the first j allow.
 use Prim.Native.Nat.{ℕ, _-_, _≤_}
 use mathlib.Core.Path.{_≡_, sym, _∙_}
 use mathlib.Core.Bool.{Bool}
@@ -10,18 +10,18 @@ use lib.ListN.{getD}
 use mir.Syntax.{w64}
 use mir.Val.{toZ}
 use mir.Facts.{toZ-pos}
-use Rattle.paper.specs.Lengths.{tolerance, leastOf, lengthOf}
+use Rattle.paper.specs.Lengths.{allowed, leastOf, lengthOf}
 use Rattle.laws.proofs.Every.{at-end}
 use Rattle.columns.specs.Columns.{numberAt, tasksBy, rankedBy}
 use Rattle.tolerance.proofs.Machine.{read-back, kept}
-use Rattle.lengths.proofs.Tables.{tick-at}
+use Rattle.lengths.proofs.Tables.{allowed-at}
 use Rattle.lengths.proofs.Turns.{least-none, least-turn}
 use Rattle.lengths.proofs.length_of.Statement.{statement}
 use Rattle.lengths.proofs.length_of.Tie as tie
 
 abbrev Inv-loop : tie.InvT-loop
 Inv-loop n y p ticks k rank q₀ j₀ q j =
-    (j ≤ n) × (toZ w64 q ≡ leastOf j (λ j. ltb (getD p j 0) (getD p k 0)) (tolerance (tasksBy n y) (rankedBy p)) (pos (numberAt 0 y k)))
+    (j ≤ n) × (toZ w64 q ≡ leastOf j (λ j. ltb (getD p j 0) (getD p k 0)) (allowed (tasksBy n y) (rankedBy p)) (pos (numberAt 0 y k)))
 
 abbrev μ-loop : tie.MeasureT-loop
 μ-loop n y p ticks k rank q₀ j₀ q j = n - j
@@ -73,7 +73,7 @@ loop-again c =
     let h = c .before .before .before .loop-test .taken in (
       omega arith,
       kept (c .narrowed .result) (c .narrowed .ok)
-          (c .narrowed .ensures ∙ least-turn _ _ _ (l .j) (l .inv .1) (read-back _ (c .before .narrowed-arg2 .given) ∙ tick-at _ _ (s .pre .1 .0) (l .j) h)),
+          (c .narrowed .ensures ∙ least-turn _ _ _ (l .j) (l .inv .1) (allowed-at _ _ (s .pre .1 .0) (l .j) h (read-back _ (c .before .narrowed-arg2 .given)))),
     )
 
 returns : tie.Need-returns Inv-loop μ-loop

@@ -1,22 +1,29 @@
--- A task that is not above does not count.
-use mathlib.Core.Path.{ap₂, _∙_}
-use borrow.Author.Needs.{needs}
+-- A task that isn't above, or whose tolerance is q or more, leaves q as it is.
+use mathlib.Core.Path.{refl}
 use mir.Facts.{toZ-ofZ}
-use Rattle.paper.specs.Lengths.{smaller}
 use Rattle.tolerance.proofs.Machine.{kept}
+use Rattle.lengths.proofs.Turns.{narrows, next-fits}
 use Rattle.lengths.proofs.narrowed.Statement.{statement}
 use Rattle.lengths.proofs.narrowed.Tie as tie
 
-smaller-of-requires : tie.Need-smaller-of-requires
-smaller-of-requires c κs = search needs
+add-result : tie.Need-add-result
+add-result c =
+    let s = c .before in
+    let below = rw (toZ-ofZ (s .fits .tolerance), toZ-ofZ (s .fits .q)) at (c .if1 .taken) in
+    record { sfits = rw (toZ-ofZ (s .fits .tolerance)) (next-fits (s .args .q) (s .args .tolerance) (s .args .above) _ below (s .fits .tolerance .sfits) (s .fits .q .sfits)) }
 
 returns : tie.Need-returns
 returns c =
-    let s = c .before .before in
-    rw (c .before .if1 .taken) (kept (c .smaller-of .result) (c .smaller-of .ok) (c .smaller-of .ensures ∙ ap₂ smaller (toZ-ofZ (s .fits .q)) (toZ-ofZ (s .fits .tolerance))))
+    let s = c .before in
+    let below = rw (toZ-ofZ (s .fits .tolerance), toZ-ofZ (s .fits .q)) at (c .if1 .taken) in
+    rw (toZ-ofZ (s .fits .tolerance), narrows (s .args .q) (s .args .tolerance) (s .args .above), below)
+    (kept _ (next-fits (s .args .q) (s .args .tolerance) (s .args .above) _ below (s .fits .tolerance .sfits) (s .fits .q .sfits)) refl)
 
 returns-2 : tie.Need-returns-2
-returns-2 c = rw (c .if1 .left) (toZ-ofZ (c .before .fits .q))
+returns-2 c =
+    let s = c .before in
+    let below = rw (toZ-ofZ (s .fits .tolerance), toZ-ofZ (s .fits .q)) at (c .if1 .left) in
+    rw (toZ-ofZ (s .fits .q), narrows (s .args .q) (s .args .tolerance) (s .args .above), below)
 
 pub narrowed-spec : {M : Type 1} → statement M
-narrowed-spec = tie.close (tie.spec smaller-of-requires returns returns-2)
+narrowed-spec = tie.close (tie.spec add-result returns returns-2)

@@ -1,0 +1,4 @@
+pub mod Starts
+pub mod Full
+pub mod Tolerated
+pub mod Answered
