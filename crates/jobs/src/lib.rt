@@ -12,7 +12,7 @@ ghost use Rattle.paper.specs.Analysis.{blocking, levelOf, startSum, startOf, fi
 ghost use Rattle.columns.specs.Columns.{tasksBy, assignedBy, rankedBy, Ranged};
 ghost use Rattle.jobs.specs.Stands.{standBy, standOf, Stands, Climbs, spanOf, jobCount};
 
-// Where a task stands: its number i, how long b it is blocked, its priority and its threshold.
+// Where a task stands: its number i, for how long, b, it is blocked, its priority and its threshold.
 pub struct Stand {
     pub i: usize,
     pub b: u64,

@@ -1,4 +1,4 @@
--- The figures of document 01 that are marked P come out of the definitions, those as document 02, item 5, changes them that it changes, with the few of our own beside them; and so does the CRC's published check value.
+-- The table of figures comes out of the definitions: document 01's that are marked P, as document 02, item 5, changes them, and ours. So does the CRC's published check value.
 -- By computation.
 use mathlib.Core.Path.{_≡_, refl}
 use mathlib.Core.List.{List, [], _∷_, map}
