@@ -14,6 +14,8 @@ mod draw;
 mod file;
 #[path = "../second/generate.rs"]
 mod generate;
+#[path = "../second/later.rs"]
+mod later;
 #[path = "../second/lengths.rs"]
 mod lengths;
 #[path = "../second/listing.rs"]
@@ -186,7 +188,7 @@ fn analysis_of(n: usize) {
                 analysis::response_times(black_box(t))
                     .expect("assigned")
                     .iter()
-                    .map(|r| r.unwrap_or(0) as u64)
+                    .map(|r| r.map_or(0, |r| r.time as u64 + r.job))
                     .sum::<u64>()
             })
             .sum()

@@ -1,5 +1,6 @@
 //! Response times (document 01, "The analysis", with the blocking that document 02, item 5,
-//! settles). p is priority, h threshold, and a smaller number is the higher priority.
+//! settles, and the worst job of item 4). p is priority, h threshold, and a smaller number is the
+//! higher priority.
 
 use crate::checks::*;
 use crate::table::*;
@@ -31,26 +32,39 @@ impl Tasks {
     }
 }
 
-/// R of every task, `None` where it is beyond. Asks 5, 9, 10, 14.
-pub fn response_times(table: &Table) -> Result<Vec<Option<i64>>, Refusal> {
+/// What a task's jobs come to: R(i), and the number k of the job that reaches it, the first where
+/// several do (document 02, item 4). Jobs of an active period count from 0.
+#[derive(Clone, Copy, Debug, PartialEq, Eq)]
+pub struct Response {
+    pub time: i64,
+    pub job: u64,
+}
+
+/// The response of every task, `None` where it is beyond. Asks 5, 9, 10, 14.
+pub fn response_times(table: &Table) -> Result<Vec<Option<Response>>, Refusal> {
     ask_counts_and_numbers(table)?;
     refuse(10, assignment_wrong(table))?;
     refuse(14, unassigned(table))?;
     let tasks = Tasks::of(table);
-    Ok((0..tasks.n).map(|i| response_time(&tasks, i)).collect())
+    Ok((0..tasks.n).map(|i| response(&tasks, i)).collect())
 }
 
-/// R(i), the largest F - k·T(i) over the jobs of the active period; `None` is "beyond".
-pub fn response_time(tasks: &Tasks, i: usize) -> Option<i64> {
+/// R(i), the largest F - k·T(i) over the jobs of the active period, and the first k that has it;
+/// `None` is "beyond". All jobs are gone through, as any of them may be beyond.
+pub fn response(tasks: &Tasks, i: usize) -> Option<Response> {
     let b = blocking(tasks, i);
-    let mut largest = i64::MIN;
+    let mut worst: Option<Response> = None;
     let mut s = 0;
     for k in 0..jobs(tasks, i, b)? {
         s = start(tasks, i, b, k, s)?;
         let f = finish(tasks, i, s)?;
-        largest = largest.max(f as i64 - (k * tasks.period[i]) as i64);
+        let time = f as i64 - (k * tasks.period[i]) as i64;
+        // A later job that only reaches the same value isn't the first.
+        if worst.is_none_or(|worst| worst.time < time) {
+            worst = Some(Response { time, job: k });
+        }
     }
-    Some(largest)
+    worst
 }
 
 /// An assignment passes when every R(i) exists and R(i) ≤ D(i).
@@ -58,7 +72,7 @@ pub fn passes(tasks: &Tasks) -> bool {
     (0..tasks.n).all(|i| task_passes(tasks, i).is_some())
 }
 
-/// The same jobs as in `response_time`, given up at the first that is beyond or late.
+/// The same jobs as in `response`, given up at the first that is beyond or late.
 fn task_passes(tasks: &Tasks, i: usize) -> Option<()> {
     let b = blocking(tasks, i);
     let mut s = 0;
@@ -91,7 +105,7 @@ pub fn blocking(tasks: &Tasks, i: usize) -> u64 {
 }
 
 /// ceil(L/T(i)): jobs k run from 0 to one less.
-fn jobs(tasks: &Tasks, i: usize, b: u64) -> Option<u64> {
+pub fn jobs(tasks: &Tasks, i: usize, b: u64) -> Option<u64> {
     Some(active_period(tasks, i, b)?.div_ceil(tasks.period[i]))
 }
 

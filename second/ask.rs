@@ -4,6 +4,7 @@
 //! A request is kind (1 byte), length of the body (2 bytes, at most 4,096), body. One that breaks
 //! the protocol prints `bad request` and ends the program.
 
+use crate::analysis::Response;
 use crate::checks::Refusal;
 use crate::table::*;
 use crate::{analysis, file, lengths, listing, parts};
@@ -166,7 +167,7 @@ fn write(mut body: Body) -> Option<String> {
 fn response_times(mut body: Body) -> Option<String> {
     let table = body.table()?;
     body.end()?;
-    let answer = analysis::response_times(&table).map(|times| times_text(&times));
+    let answer = analysis::response_times(&table).map(|responses| times_text(&responses));
     Some(line(answer))
 }
 
@@ -269,15 +270,23 @@ fn table_text(table: &Table) -> String {
     text
 }
 
-fn times_text(times: &[Option<i64>]) -> String {
-    let mut text = String::from("times");
-    for time in times {
-        match time {
-            Some(ticks) => text += &format!(" {ticks}"),
-            None => text += " beyond",
+/// The times of all tasks, then the worst job of each (document 02, item 4).
+fn times_text(responses: &[Option<Response>]) -> String {
+    let mut times = String::from("times");
+    let mut jobs = String::from(" jobs");
+    for response in responses {
+        match response {
+            Some(Response { time, job }) => {
+                times += &format!(" {time}");
+                jobs += &format!(" {job}");
+            }
+            None => {
+                times += " beyond";
+                jobs += " -";
+            }
         }
     }
-    text
+    times + &jobs
 }
 
 fn fits_text(fits: bool) -> String {

@@ -749,6 +749,7 @@ fn response_times(stream: &mut Stream) {
     blocked(stream);
     let later = assigned(&[(26, 70, 70), (62, 100, 120)], &[(1, 1), (2, 2)]).0;
     stream.analysis(3, "a later job is the worst", &later);
+    worst_jobs(stream);
     let full = (600_000, most, most);
     let beyond = assigned(&[full, full], &[(1, 1), (2, 2)]).0;
     stream.analysis(3, "the second beyond", &beyond);
@@ -798,6 +799,151 @@ fn blocked(stream: &mut Stream) {
         stream.analysis(3, what, &table);
     }
 }
+
+/// The first task cuts the second, which is at its worst in job 1: it takes 6 ticks there, 5 in job
+/// 0 and 4 in job 2, the last. Where it may not be cut it takes 5, 3 and 4.
+fn cut_by_one(deadline: u32, cut: bool) -> (Table, Vec<u32>) {
+    let threshold = if cut { 2 } else { 1 };
+    let tasks = [(3, 6, 6), (2, 4, deadline)];
+    assigned(&tasks, &[(1, 1), (2, threshold)])
+}
+
+/// The third is at its worst in the last of its two jobs: it takes 5 and 6 ticks. None is cut.
+fn last_of_two(deadline: u32) -> (Table, Vec<u32>) {
+    let tasks = [(2, 4, 4), (1, 7, 7), (2, 6, deadline)];
+    assigned(&tasks, &[(1, 1), (2, 1), (3, 1)])
+}
+
+/// The third takes 5, 5, 6, 6 and 4 ticks.
+fn two_later() -> (Table, Vec<u32>) {
+    let tasks = [(2, 5, 5), (1, 12, 12), (2, 4, 6)];
+    assigned(&tasks, &[(1, 1), (2, 1), (3, 3)])
+}
+
+/// The third takes 3, 3 and 2 ticks.
+fn first_and_later() -> (Table, Vec<u32>) {
+    let tasks = [(1, 3, 3), (1, 8, 8), (1, 2, 3)];
+    assigned(&tasks, &[(1, 1), (2, 1), (3, 1)])
+}
+
+/// The second takes 8, 9 and 5 ticks, the third 20, 26, 21, 27 and 14.
+fn later_of_two(deadline: u32) -> (Table, Vec<u32>) {
+    let tasks = [(5, 10, 10), (3, 7, 8), (1, 14, deadline)];
+    assigned(&tasks, &[(1, 1), (2, 2), (3, 2)])
+}
+
+/// A task for which those of `cut_by_one` leave no time, and these two.
+fn beyond_beside_later() -> (Table, Vec<u32>) {
+    let tasks = [(1, 100, 100), (3, 6, 6), (2, 4, 6)];
+    assigned(&tasks, &[(3, 3), (1, 1), (2, 2)])
+}
+
+/// `cut_by_one` fourteen times as long, its first task in fourteen parts.
+fn later_of_fifteen(deadline: u32) -> (Table, Vec<u32>) {
+    let mut tasks = [(3, 84, 84); 15];
+    tasks[14] = (28, 56, deadline);
+    assigned(&tasks, &own_thresholds())
+}
+
+/// `two_later` thirteen times as long, its first task in thirteen parts.
+fn two_later_of_fifteen() -> (Table, Vec<u32>) {
+    let mut tasks = [(2, 65, 65); 15];
+    tasks[13] = (13, 156, 156);
+    tasks[14] = (26, 52, 78);
+    assigned(&tasks, &own_thresholds())
+}
+
+/// Priorities 1 to 15, each threshold the priority itself.
+fn own_thresholds() -> [(u32, u32); 15] {
+    std::array::from_fn(|k| (k as u32 + 1, k as u32 + 1))
+}
+
+/// The third is at its worst in job 86,426.
+fn far_behind() -> (Table, Vec<u32>) {
+    let tasks = [(402, 898, 898), (309, 877, 877), (1, 5, 5)];
+    assigned(&tasks, &[(1, 1), (2, 2), (3, 2)])
+}
+
+/// Document 02, item 4: which job is the worst, where several reach R, and which of them misses the
+/// deadline. The tables are those of tests/worst.rs.
+fn worst_jobs(stream: &mut Stream) {
+    let three = |tasks: [(u32, u32, u32); 3], thresholds: [u32; 3]| {
+        let places = [1, 2, 3].map(|p: u32| (p, thresholds[p as usize - 1]));
+        assigned(&tasks, &places)
+    };
+    let to_the_horizon = |times: u32| {
+        let tasks = [(3, 6, 6), (2, 4, 6)].map(|(c, t, d)| (c * times, t * times, d * times));
+        assigned(&tasks, &[(1, 1), (2, 2)])
+    };
+    for (what, (table, _)) in [
+        ("a later job is the worst, in time", cut_by_one(6, true)),
+        ("the same, it alone is late", cut_by_one(5, true)),
+        ("the same, the first is late too", cut_by_one(4, true)),
+        ("the first of three jobs is the worst", cut_by_one(5, false)),
+        ("the same, it alone is late", cut_by_one(4, false)),
+        ("the last job is the worst", last_of_two(6)),
+        ("the same, it alone is late", last_of_two(5)),
+        (
+            "the last of two jobs is the worst",
+            three([(1, 6, 6), (2, 4, 4), (2, 6, 6)], [1, 1, 1]),
+        ),
+        ("the first job and a later one reach R", first_and_later()),
+        (
+            "the first job and two later ones do",
+            three([(1, 15, 15), (2, 5, 5), (2, 4, 5)], [1, 1, 3]),
+        ),
+        (
+            "the same by its own threshold",
+            three([(1, 3, 3), (1, 8, 8), (1, 2, 3)], [1, 1, 3]),
+        ),
+        ("two later jobs reach R", two_later()),
+        (
+            "jobs 1 and 2 of four do",
+            three([(1, 6, 6), (2, 4, 4), (1, 3, 5)], [1, 1, 2]),
+        ),
+        (
+            "two later jobs do, one of them the last",
+            three([(2, 4, 4), (1, 5, 5), (2, 7, 7)], [1, 1, 1]),
+        ),
+        (
+            "three later jobs do",
+            three([(4, 12, 12), (4, 9, 9), (1, 5, 13)], [1, 2, 1]),
+        ),
+        ("two tasks, each in a later job", later_of_two(30)),
+        ("beyond beside a later job", beyond_beside_later()),
+        (
+            "a later job of a blocked task",
+            three([(3, 6, 6), (1, 3, 7), (3, 40, 40)], [1, 2, 2]),
+        ),
+        (
+            "the same, not blocked",
+            three([(3, 6, 6), (1, 3, 7), (3, 40, 40)], [1, 2, 3]),
+        ),
+        ("a later job of the fifteenth", later_of_fifteen(84)),
+        ("two later jobs of the fifteenth", two_later_of_fifteen()),
+        ("a later job, L 999,996", to_the_horizon(83_333)),
+        ("the same, L 1,000,008", to_the_horizon(83_334)),
+        ("job 86,426 is the worst", far_behind()),
+    ] {
+        stream.analysis(3, what, &table);
+    }
+    let (table, _) = cut_by_one(6, true);
+    for (what, change) in WORST_REFUSED {
+        let mut table = table;
+        change(&mut table);
+        stream.analysis(3, what, &table);
+    }
+}
+
+/// What turns a table away whose worst job is a later one.
+const WORST_REFUSED: [(&str, fn(&mut Table)); 4] = [
+    ("a later job, n is 0", |table| table.n = 0),
+    ("a later job, cost 0", |table| table.records[0].cost = 0),
+    ("a later job, priorities 2 and 2", |table| {
+        table.records[0].priority = 2
+    }),
+    ("a later job, unassigned", clear),
+];
 
 /// What every call of the analysis is turned away by: 5, 9, 10, 14.
 fn turned_away_analysis(stream: &mut Stream, kind: u8) {
@@ -940,6 +1086,7 @@ fn rows(stream: &mut Stream) {
     stream.next_row("after the second of two", 4, &two, &[1, 2, 1, 2]);
     stream.next_row("from a row that fails", 5, &only, &[1, 2, 1, 1]);
     stream.next_row("after the only row", 4, &only, &[1, 2, 1, 2]);
+    later_jobs_in_rows(stream);
     next_rows_of_fifteen(stream);
     stream.next_row("room for one number less", 3, &paper, &[1, 2, 1, 1]);
     stream.next_row("the same, at the end", 3, &paper, &[2, 1, 2, 1]);
@@ -950,6 +1097,30 @@ fn rows(stream: &mut Stream) {
     for (what, table) in out_of_range_tables() {
         stream.next_row(what, 4, &table, &[1, 2, 1, 1]);
     }
+}
+
+/// Rows in which a later job is the worst: it is in time, or it alone is late.
+fn later_jobs_in_rows(stream: &mut Stream) {
+    for (what, table) in [
+        ("a row whose last job is the worst", last_of_two(6).0),
+        ("the same, that job alone late", last_of_two(5).0),
+    ] {
+        stream.first_row(what, 6, &table);
+    }
+    for (what, table) in [
+        (
+            "to a row whose later job is the worst",
+            cut_by_one(6, true).0,
+        ),
+        ("the same, that job alone late", cut_by_one(5, true).0),
+        ("the same, the first late too", cut_by_one(4, true).0),
+    ] {
+        stream.next_row(what, 4, &table, &[1, 2, 1, 1]);
+    }
+    let mut before: Vec<u8> = (1..=15).chain(1..=15).collect();
+    before[29] = 14;
+    let what = "to a row of fifteen with a later job";
+    stream.next_row(what, 30, &later_of_fifteen(84).0, &before);
 }
 
 /// Near the first row of all, in the middle, and at the end, of tasks that pass in every row.
@@ -1233,6 +1404,13 @@ fn list_inputs() -> Vec<(String, Vec<u8>)> {
         ),
         ("deadline above period", input(&[(3, 6, 20), (4, 9, 20)])),
         ("cost above deadline", input(&[(3, 10, 2), (1, 10, 10)])),
+        ("later job in time", input(&[(3, 6, 6), (2, 4, 6)])),
+        ("later job late", input(&[(3, 6, 6), (2, 4, 5)])),
+        (
+            "last job in time",
+            input(&[(2, 4, 4), (1, 7, 7), (2, 6, 6)]),
+        ),
+        ("last job late", input(&[(2, 4, 4), (1, 7, 7), (2, 6, 5)])),
         ("assigned", plated(PLATE, &two_jobs_file())),
         ("empty", vec![]),
         ("four bytes", paper[..4].to_vec()),
@@ -1287,6 +1465,24 @@ fn show_inputs() -> Vec<(String, Vec<u8>)> {
         ("beyond", input(assigned(&[full, full], &order))),
         ("largest", input(assigned(&[(most, most, most)], &[(1, 1)]))),
         ("eight jobs", input(eight_jobs())),
+        ("later job in time", input(cut_by_one(6, true))),
+        ("later job late", input(cut_by_one(5, true))),
+        ("later and first job late", input(cut_by_one(4, true))),
+        ("first job alone late", input(cut_by_one(4, false))),
+        ("last job in time", input(last_of_two(6))),
+        ("last job late", input(last_of_two(5))),
+        ("first and later job alike", input(first_and_later())),
+        ("two later jobs alike", input(two_later())),
+        ("later jobs of two", input(later_of_two(30))),
+        ("later jobs of two late", input(later_of_two(26))),
+        ("beyond beside later", input(beyond_beside_later())),
+        ("later of fifteen", input(later_of_fifteen(84))),
+        ("later of fifteen late", input(later_of_fifteen(83))),
+        ("later far behind", input(far_behind())),
+        (
+            "later unassigned",
+            input(unassigned(&[(3, 6, 6), (2, 4, 6)])),
+        ),
         ("another line", plated(PLATE, &other_line_file())),
         ("damaged", plated(PLATE, &flipped(&two_jobs_file(), 10))),
         ("plate alone", plated(PLATE, &[])),

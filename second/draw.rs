@@ -1,7 +1,7 @@
 //! Cabinets, rows and name lists drawn from random numbers: all of them good, so that a call
 //! takes them. What makes them wrong stands in spoil.rs.
 
-use crate::analysis::{passes, response_time, response_times, Tasks};
+use crate::analysis::{passes, response, response_times, Response, Tasks};
 use crate::lengths::{lengths, tolerances};
 use crate::random::Random;
 use crate::table::*;
@@ -208,18 +208,18 @@ fn lowest(table: &Table) -> usize {
 /// Every deadline at the response time or behind it, but for one, mostly, that is just kept or
 /// missed by a tick. The table stays as it is where a task is beyond, or none has a priority.
 pub fn deadlines_at_the_times(random: &mut Random, table: &mut Table) {
-    let Ok(times) = response_times(table) else {
+    let Ok(responses) = response_times(table) else {
         return;
     };
-    let Some(times) = times.into_iter().collect::<Option<Vec<i64>>>() else {
+    let Some(responses) = responses.into_iter().collect::<Option<Vec<Response>>>() else {
         return;
     };
-    for (record, time) in table.records.iter_mut().zip(&times) {
-        record.deadline = record.deadline.max(*time as u32);
+    for (record, response) in table.records.iter_mut().zip(&responses) {
+        record.deadline = record.deadline.max(response.time as u32);
     }
-    let k = random.place(times.len());
+    let k = random.place(responses.len());
     let less = random.one_of(&[0, 0, 1]);
-    table.records[k].deadline = (times[k] as u32 - less).max(1);
+    table.records[k].deadline = (responses[k].time as u32 - less).max(1);
 }
 
 /// The cost of one of n tasks that together load the processor by so much of a hundred.
@@ -273,11 +273,16 @@ pub fn assign(random: &mut Random, table: &mut Table) {
     for (place, k) in order.into_iter().enumerate() {
         let priority = place as u32 + 1;
         table.records[k].priority = priority;
-        table.records[k].threshold = if random.once_in(2) {
-            priority
-        } else {
-            random.from(1, priority)
-        };
+        table.records[k].threshold = threshold_of(random, priority);
+    }
+}
+
+/// A threshold for this priority, which is the priority itself half of the time.
+pub fn threshold_of(random: &mut Random, priority: u32) -> u32 {
+    if random.once_in(2) {
+        priority
+    } else {
+        random.from(1, priority)
     }
 }
 
@@ -540,7 +545,7 @@ fn pass_at(random: &mut Random, table: &mut Table, row: &[u8], other: &[u8]) -> 
 /// The response times of the table in this row.
 fn times_of(table: &Table, row: &[u8]) -> Vec<Option<u32>> {
     let tasks = tasks_in(table, row);
-    let time = |i| response_time(&tasks, i).map(|time| time as u32);
+    let time = |i| response(&tasks, i).map(|response| response.time as u32);
     (0..tasks.n).map(time).collect()
 }
 

@@ -7,6 +7,7 @@ use crate::analysis::{active_period, Tasks};
 use crate::checks::{numbers_wrong, task_count_wrong};
 use crate::draw::*;
 use crate::file;
+use crate::later::{later_jobs, later_row};
 use crate::listing::{Row, Walk};
 use crate::random::Random;
 use crate::spoil::*;
@@ -278,10 +279,11 @@ fn of_analysis(random: &mut Random, kind: u8) -> Vec<u8> {
 
 /// Tables, more often than not, whose response times show what one drawn anyhow seldom shows.
 fn aimed_times(random: &mut Random, table: &mut Table) {
-    match random.from(0, 11) {
+    match random.from(0, 19) {
         0..=3 => full_times(random, table),
         4 | 5 => short_times(random, table),
-        6 => full_above_a_tick_or_two(random, table),
+        6 | 7 => full_above_a_tick_or_two(random, table),
+        8..=13 => return later_jobs(random, table),
         _ => {}
     }
     if random.once_in(3) {
@@ -356,7 +358,12 @@ fn rows_of_few(random: &mut Random) -> (Table, Vec<u8>) {
     let n = random.from(1, MANY_TASKS - 1);
     let mut cabinet = cabinet(random, n, true);
     past_the_last(random, &mut cabinet.table);
-    let row = any_row(random, cabinet.table.n as usize);
+    let row = if random.once_in(3) {
+        later_row(random, &mut cabinet.table)
+    } else {
+        None
+    };
+    let row = row.unwrap_or_else(|| any_row(random, cabinet.table.n as usize));
     if random.once_in(2) {
         spoil(random, &mut cabinet, &[0, 0, 5, 9, 10, 14, 16]);
     }

@@ -24,6 +24,7 @@ mod checks;
 mod draw;
 mod file;
 mod generate;
+mod later;
 mod lengths;
 mod list;
 mod listing;

@@ -8,12 +8,13 @@ mod parts_calls;
 mod rows;
 mod tables;
 
-use crate::analysis::{self, Tasks};
+use crate::analysis::{self, Response, Tasks};
 use crate::ask::Body;
 use crate::cases::CALLS;
 use crate::checks::{self, *};
 use crate::draw::{step_back, tasks_in, LIKE_A_SPACE};
 use crate::file;
+use crate::later::{differences, reaching};
 use crate::lengths;
 use crate::listing::Row;
 use crate::reach::Tally;

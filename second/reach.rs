@@ -31,6 +31,8 @@ pub struct Tally {
 struct Thing {
     came: u64,
     wanted: u64,
+    /// Where it is wanted once in so many requests of its call: in how many.
+    one_in: Option<u64>,
 }
 
 impl Thing {
@@ -44,6 +46,11 @@ impl Thing {
             0
         }
     }
+
+    /// Whether it is wanted as a share of its call's requests, and came less often.
+    fn falls_short(&self, requests: u64) -> bool {
+        self.one_in.is_some_and(|many| self.came * many < requests)
+    }
 }
 
 impl Tally {
@@ -54,8 +61,22 @@ impl Tally {
     }
 
     pub fn note_often(&mut self, wanted: u64, what: &str, came: bool) {
+        self.note_thing(wanted, None, what, came);
+    }
+
+    /// Notes a thing that is to come once in so many requests of the call, those that are turned
+    /// away among them.
+    pub fn note_share(&mut self, one_in: u64, what: &str, came: bool) {
+        self.note_thing(LEAST, Some(one_in), what, came);
+    }
+
+    fn note_thing(&mut self, wanted: u64, one_in: Option<u64>, what: &str, came: bool) {
         if !self.things.contains_key(what) {
-            let thing = Thing { came: 0, wanted };
+            let thing = Thing {
+                came: 0,
+                wanted,
+                one_in,
+            };
             self.things.insert(what.to_string(), thing);
         }
         if let (true, Some(thing)) = (came, self.things.get_mut(what)) {
@@ -135,7 +156,27 @@ fn print(tallies: &[Tally], output: &mut impl Write) -> Result<(), Stop> {
             tally.things.len(),
         )?;
     }
+    for line in shares(tallies) {
+        writeln!(output, "{line}")?;
+    }
     Ok(())
+}
+
+/// A line for each thing that is wanted as a share of its call's requests.
+fn shares(tallies: &[Tally]) -> Vec<String> {
+    let mut lines = Vec::new();
+    for ((call, _), tally) in CALLS.iter().zip(tallies) {
+        for (what, thing) in &tally.things {
+            if let Some(one_in) = thing.one_in {
+                let (came, requests) = (thing.came, tally.requests);
+                let share = 100.0 * came as f64 / requests as f64;
+                lines.push(format!(
+                    "{call}, {what}: {came} of {requests} answers, {share:.1} in a hundred; wanted one in {one_in}"
+                ));
+            }
+        }
+    }
+    lines
 }
 
 /// A line for each thing that came too seldom in a stream of so many requests.
@@ -154,6 +195,11 @@ fn missing(tallies: &[Tally], count: u64) -> Vec<String> {
                 lines.push(format!(
                     "{call}, {what}: came {} times, wanted {wanted}",
                     thing.came
+                ));
+            } else if let (true, Some(one_in)) = (thing.falls_short(tally.requests), thing.one_in) {
+                lines.push(format!(
+                    "{call}, {what}: came {} times in {} answers, wanted one in {one_in}",
+                    thing.came, tally.requests
                 ));
             }
         }
@@ -178,4 +224,25 @@ fn what_is_wanted_of_a_stream() {
         "read, seldom: came 0 times, wanted 2",
     ];
     assert_eq!(missing(&tallies, MANY), both);
+}
+
+/// One in fifty of a call's answers: at 20 of 1,000 it is kept, at 20 of 1,001 it isn't.
+#[test]
+fn a_share_of_a_call() {
+    let mut tallies: [Tally; CALLS.len()] = Default::default();
+    for tally in &mut tallies {
+        tally.requests = 1_000;
+    }
+    for _ in 0..20 {
+        tallies[2].note_share(50, "shared", true);
+    }
+    tallies[2].note_share(50, "shared", false);
+    assert!(missing(&tallies, MANY).is_empty());
+    let said = "response times, shared: 20 of 1000 answers, 2.0 in a hundred; wanted one in 50";
+    assert_eq!(shares(&tallies), [said]);
+    tallies[2].requests += 1;
+    assert!(missing(&tallies, SOME - 1).is_empty());
+    let short = ["response times, shared: came 20 times in 1001 answers, wanted one in 50"];
+    assert_eq!(missing(&tallies, SOME), short);
+    assert_eq!(missing(&tallies, MANY), short);
 }

@@ -12,7 +12,10 @@ mod making;
 mod reach;
 mod refusals;
 mod samples;
+mod worst;
 
+use crate::analysis::{response_times, Response};
+use crate::checks::Refusal;
 use crate::table::*;
 
 pub const PLATE: Plate = Plate {
@@ -45,6 +48,25 @@ pub fn assigned(tasks: &[(u32, u32, u32)], priorities: &[u32], thresholds: &[u32
         record.threshold = thresholds[i];
     }
     table
+}
+
+/// R of each task, where the worst jobs aren't what is tried.
+pub fn times_of(table: &Table) -> Result<Vec<Option<i64>>, Refusal> {
+    let times = |all: Vec<Option<Response>>| all.into_iter().map(time_of).collect();
+    response_times(table).map(times)
+}
+
+pub fn time_of(response: Option<Response>) -> Option<i64> {
+    response.map(|response| response.time)
+}
+
+/// Responses of which each has its worst in the first job.
+pub fn of_first_jobs(times: &[i64]) -> Vec<Option<Response>> {
+    let response = |time: &i64| Response {
+        time: *time,
+        job: 0,
+    };
+    times.iter().map(response).map(Some).collect()
 }
 
 /// Gives every record one own region that is its whole cost, and hands back these words.

@@ -12,12 +12,11 @@ pub fn of_times(tally: &mut Tally, mut body: Body, answer: &Answer) -> Option<()
     table_faults(&table, None).note_meetings(tally, 3, answer);
     note_table(tally, &table, answer);
     note_counts(tally, table.n, None, answer);
-    let words: Vec<&str> = if answer.taken() {
-        answer.words().collect()
-    } else {
-        Vec::new()
-    };
-    let times: Vec<Option<u64>> = words.iter().map(|word| word.parse().ok()).collect();
+    let responses = responses_of(answer, &table)?;
+    let times: Vec<Option<u64>> = responses
+        .iter()
+        .map(|response| response.map(|response| response.time as u64))
+        .collect();
     let tasks = Tasks::of(&table);
     let any = |what: &dyn Fn(usize, u64) -> bool| {
         let mut places = times.iter().enumerate();
@@ -37,9 +36,6 @@ pub fn of_times(tally: &mut Tally, mut body: Body, answer: &Answer) -> Option<()
     );
     tally.note("late by a tick", any(&|i, r| r == tasks.deadline[i] + 1));
     tally.note("a time of the whole horizon", any(&|_, r| r == 1_000_000));
-    let later_job = any(&|i, r| first_finish(&tasks, i).is_some_and(|f| f < r));
-    tally.note("a later job is the worst", later_job);
-    tally.note("a later job is the worst at n 9 to 15", later_job && many);
     let by = |what: fn(u64) -> bool| any(&|i, _| what(analysis::largest_blocker(&tasks, i)));
     tally.note("not blocked", by(|cost| cost == 0));
     tally.note("blocked by a cost of 1", by(|cost| cost == 1));
@@ -52,7 +48,33 @@ pub fn of_times(tally: &mut Tally, mut body: Body, answer: &Answer) -> Option<()
     let arrival = any(&|i, _| blocked_at_an_arrival(&tasks, i));
     tally.note("an arrival at the start, blocked", arrival);
     note_other_rules(tally, &tasks, &times);
+    note_worst_jobs(tally, &tasks, &responses);
     Some(())
+}
+
+/// The responses that were answered, none where the call was turned away. `None` where the line is
+/// none of this call's: it has a time and a job for each task, and a job exactly beside a time.
+fn responses_of(answer: &Answer, table: &Table) -> Option<Vec<Option<Response>>> {
+    if !answer.taken() {
+        return Some(Vec::new());
+    }
+    let n = table.n as usize;
+    let words: Vec<&str> = answer.words().collect();
+    if words.len() != 2 * n + 1 || words[n] != "jobs" {
+        return None;
+    }
+    let response = |(time, job): (&&str, &&str)| match (*time, *job) {
+        ("beyond", "-") => Some(None),
+        (time, job) => Some(Some(Response {
+            time: time.parse().ok()?,
+            job: job.parse().ok()?,
+        })),
+    };
+    words[..n]
+        .iter()
+        .zip(&words[n + 1..])
+        .map(response)
+        .collect()
 }
 
 /// Which rules that document 02, item 5, shuts out would answer otherwise. They differ from the
@@ -77,10 +99,148 @@ fn note_other_rules(tally: &mut Tally, tasks: &Tasks, times: &[Option<u64>]) {
     tally.note("in time, and late by all of what blocks", late);
 }
 
-/// When the first job ends.
-fn first_finish(tasks: &Tasks, i: usize) -> Option<u64> {
-    let start = analysis::start(tasks, i, analysis::blocking(tasks, i), 0, 0)?;
-    analysis::finish(tasks, i, start)
+/// A task that isn't beyond: what was answered of it, what each of its jobs takes, and which of
+/// them reach the most.
+struct Worst {
+    task: usize,
+    response: Response,
+    differences: Vec<i64>,
+    reaching: Vec<usize>,
+}
+
+impl Worst {
+    /// A later job is worse than the first.
+    fn is_later(&self) -> bool {
+        self.response.job > 0
+    }
+
+    fn several(&self) -> bool {
+        self.reaching.len() > 1
+    }
+}
+
+/// One answer in so many has a worst job above 0.
+const ONE_IN: u64 = 50;
+
+/// The worst jobs (document 02, item 4), and which rules that are wrong would name others.
+fn note_worst_jobs(tally: &mut Tally, tasks: &Tasks, responses: &[Option<Response>]) {
+    let worst: Vec<Worst> = (0..responses.len())
+        .filter_map(|task| {
+            let differences = differences(tasks, task)?;
+            Some(Worst {
+                task,
+                response: responses[task]?,
+                reaching: reaching(&differences),
+                differences,
+            })
+        })
+        .collect();
+    note_later(tally, tasks, responses, &worst);
+    note_several(tally, tasks, &worst);
+    note_missed(tally, tasks, &worst);
+    let any = |what: &dyn Fn(&Worst) -> bool| worst.iter().any(what);
+    for (what, rule) in [
+        ("the last that reaches R", LAST),
+        ("job 0 always", JOB_0),
+        ("counting from 1", FROM_1),
+    ] {
+        let other = any(&|w| rule(&w.differences) != w.response.job);
+        tally.note(&format!("another job by {what}"), other);
+    }
+    let first = any(&|w| w.differences[0] != w.response.time);
+    tally.note("another time by the first job alone", first);
+}
+
+/// Where a later job is the worst.
+fn note_later(tally: &mut Tally, tasks: &Tasks, responses: &[Option<Response>], worst: &[Worst]) {
+    let any = |what: &dyn Fn(&Worst) -> bool| worst.iter().any(what);
+    let later = any(&Worst::is_later);
+    tally.note_share(ONE_IN, "a worst job above 0", later);
+    tally.note_often(AIMED_AT, "a later job is the worst", later);
+    let many = tasks.n >= 9;
+    tally.note_often(
+        HALF_AS_OFTEN,
+        "a later job is the worst at n 9 to 15",
+        later && many,
+    );
+    // A single task has a single job.
+    for size in 2..=MOST_TASKS {
+        let what = format!("a later job is the worst at n {size}");
+        tally.note_often(SELDOM, &what, later && tasks.n == size);
+    }
+    for (what, record) in [("the first", 0), ("the last", tasks.n.max(1) - 1)] {
+        let what = format!("a later job is the worst in {what} record");
+        tally.note(&what, any(&|w| w.is_later() && w.task == record));
+    }
+    tally.note("a worst job of 2 or more", any(&|w| w.response.job >= 2));
+    tally.note_often(
+        SELDOM,
+        "a worst job above 255",
+        any(&|w| w.response.job > 255),
+    );
+    let two = worst.iter().filter(|w| w.is_later()).count() > 1;
+    tally.note_often(SELDOM, "two tasks with a later worst job", two);
+    let beyond = responses.contains(&None);
+    tally.note("beyond beside a worst job above 0", later && beyond);
+    let blocked = |w: &Worst| analysis::blocking(tasks, w.task) > 0;
+    tally.note(
+        "a later job of a blocked task is the worst",
+        any(&|w| w.is_later() && blocked(w)),
+    );
+    let last = |w: &Worst| w.response.job as usize == w.differences.len() - 1;
+    tally.note_often(
+        SELDOM,
+        "a later job is the worst, and the last of all",
+        any(&|w| w.is_later() && last(w)),
+    );
+}
+
+/// Where several jobs reach R.
+fn note_several(tally: &mut Tally, tasks: &Tasks, worst: &[Worst]) {
+    let any = |what: &dyn Fn(&Worst) -> bool| worst.iter().any(what);
+    let above_0 = |w: &Worst| w.is_later() && w.several();
+    tally.note(
+        "several jobs reach R, job 0 among them",
+        any(&|w| !w.is_later() && w.several()),
+    );
+    tally.note("several later jobs reach R", any(&above_0));
+    tally.note(
+        "several later jobs reach R at n 9 to 15",
+        any(&above_0) && tasks.n >= 9,
+    );
+    let three = any(&|w| w.is_later() && w.reaching.len() >= 3);
+    tally.note_often(SELDOM, "three later jobs reach R", three);
+}
+
+/// Which jobs of a task miss its deadline.
+fn note_missed(tally: &mut Tally, tasks: &Tasks, worst: &[Worst]) {
+    let any = |what: &dyn Fn(&Worst, i64) -> bool| {
+        let mut worst = worst.iter();
+        worst.any(|w| what(w, tasks.deadline[w.task] as i64))
+    };
+    let kept_at_first = |w: &Worst, due: i64| w.differences[0] <= due && due < w.response.time;
+    tally.note(
+        "a later job misses the deadline, job 0 keeps it",
+        any(&kept_at_first),
+    );
+    let many = tasks.n >= 9;
+    tally.note(
+        "a later job misses the deadline, job 0 keeps it, at n 9 to 15",
+        any(&kept_at_first) && many,
+    );
+    tally.note(
+        "job 0 misses the deadline, a later one by more",
+        any(&|w, due| due < w.differences[0] && w.is_later()),
+    );
+    let others_keep = |w: &Worst, due: i64| w.differences[1..].iter().all(|later| *later <= due);
+    tally.note(
+        "of several jobs the first alone misses the deadline",
+        any(&|w, due| w.differences.len() > 1 && due < w.differences[0] && others_keep(w, due)),
+    );
+    tally.note(
+        "a later job is the worst, and in time",
+        any(&|w, due| w.is_later() && w.response.time <= due),
+    );
 }
 
 /// Whether the largest blocking comes from thresholds equal to the priority alone.

@@ -1,8 +1,21 @@
-//! Response times by rules that document 02, item 5, shuts out. A request for which one of them
-//! gives another answer tells it from the right one, and such requests are counted. No answer
-//! comes from here.
+//! Response times by rules that document 02, item 5, shuts out, and worst jobs by rules that item 4
+//! does. A request for which one of them gives another answer tells it from the right one, and such
+//! requests are counted. No answer comes from here.
 
 use crate::analysis::{active_period, climb, finish, largest_blocker, start, Tasks};
+use crate::later::reaching;
+
+/// Which job such a rule names, by what each job takes.
+pub type WorstRule = fn(&[i64]) -> u64;
+
+/// Where several reach R, the last of them.
+pub const LAST: WorstRule = |differences| reaching(differences).last().map_or(0, |k| *k as u64);
+
+/// The first job, whichever it was.
+pub const JOB_0: WorstRule = |_| 0;
+
+/// The first job is number 1.
+pub const FROM_1: WorstRule = |differences| reaching(differences)[0] as u64 + 1;
 
 /// How much of what blocks counts.
 #[derive(Clone, Copy)]
@@ -166,4 +179,13 @@ fn what_other_rules_give() {
         let full = Tasks::of(&crate::tests::assigned(&tasks, &[1, 2], &[1, 1]));
         assert_eq!(rules.map(|rule| response_time_by(&full, 0, rule)), times);
     }
+}
+
+/// The figures of tests/worst.rs: jobs 2 and 3 of five reach R, and job 0 and 1 of three.
+#[test]
+fn which_job_other_rules_name() {
+    let rules = [LAST, JOB_0, FROM_1];
+    assert_eq!(rules.map(|rule| rule(&[5, 5, 6, 6, 4])), [3, 0, 3]);
+    assert_eq!(rules.map(|rule| rule(&[3, 3, 2])), [1, 0, 1]);
+    assert_eq!(rules.map(|rule| rule(&[7])), [0, 0, 1]);
 }

@@ -15,6 +15,7 @@ pub fn of_first_row(tally: &mut Tally, mut body: Body, answer: &Answer) -> Optio
     note_whole_blocking(tally, &table, &row);
     let (order, thresholds) = row.split_at(row.len() / 2);
     let first = order.is_sorted() && thresholds.iter().all(|threshold| *threshold == 1);
+    note_later_jobs(tally, &table, &row, &[]);
     tally.note("the first row of all", !row.is_empty() && first);
     tally.note("rows passed over", !row.is_empty() && !first);
     let over = !row.is_empty() && !first;
@@ -45,6 +46,7 @@ pub fn of_next_row(tally: &mut Tally, mut body: Body, answer: &Answer) -> Option
     let mut before = row.clone();
     step_back(&mut before);
     let over = !row.is_empty() && before != given;
+    note_later_jobs(tally, &table, &row, given);
     tally.note("the row just behind", !row.is_empty() && before == given);
     tally.note("rows passed over", over);
     let some = (5..=8).contains(&n);
@@ -75,6 +77,42 @@ fn note_whole_blocking(tally: &mut Tally, table: &Table, row: &[u8]) {
         "a row that fails by all of what blocks at n 9 to 15",
         fails && many,
     );
+}
+
+/// How many of the rows before one that was found are looked at.
+const ROWS_BEFORE: usize = 30;
+
+/// A row that passes though a later job is the worst in it, and one between the given row and the one
+/// found, near this, that was passed over for a later job alone.
+fn note_later_jobs(tally: &mut Tally, table: &Table, row: &[u8], given: &[u8]) {
+    let passes = !row.is_empty() && has_later_worst(&tasks_in(table, row));
+    tally.note("a row with a later worst job", passes);
+    let mut fails = false;
+    let mut after = row.to_vec();
+    for _ in 0..ROWS_BEFORE {
+        let mut before = after.clone();
+        step_back(&mut before);
+        // The first row of all stays.
+        if before == after || before == given {
+            break;
+        }
+        fails |= first_jobs_keep(&tasks_in(table, &before));
+        after = before;
+    }
+    tally.note_often(SELDOM, "a row passed over for a later job alone", fails);
+}
+
+fn has_later_worst(tasks: &Tasks) -> bool {
+    let mut jobs = (0..tasks.n).filter_map(|i| differences(tasks, i));
+    jobs.any(|all| reaching(&all)[0] > 0)
+}
+
+/// Whether no task is beyond, and the first job of each keeps the deadline.
+fn first_jobs_keep(tasks: &Tasks) -> bool {
+    (0..tasks.n).all(|i| {
+        let all = differences(tasks, i);
+        all.is_some_and(|all| all[0] <= tasks.deadline[i] as i64)
+    })
 }
 
 fn note_listing(tally: &mut Tally, table: &Table, room: usize, answer: &Answer) {

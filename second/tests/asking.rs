@@ -124,15 +124,19 @@ fn kinds_3_to_5_analysis() {
     let kinds = |table: &Table| [3, 4, 5].map(|kind| answer(kind, start().table(table)));
     assert_eq!(
         kinds(&table),
-        ["times 2 8", "tolerances 3 2", "lengths 2 4"]
+        ["times 2 8 jobs 0 0", "tolerances 3 2", "lengths 2 4"]
     );
     table.records[0].deadline = 1;
     assert_eq!(
         kinds(&table),
-        ["times 2 8", "tolerances -1 2", "refused 16 record 1"]
+        [
+            "times 2 8 jobs 0 0",
+            "tolerances -1 2",
+            "refused 16 record 1"
+        ]
     );
     table.records[1].cost = 8;
-    assert_eq!(kinds(&table)[0], "times 2 beyond");
+    assert_eq!(kinds(&table)[0], "times 2 beyond jobs 0 -");
     table.n = 0;
     assert_eq!(kinds(&table), ["refused 5"; 3]);
 }
@@ -224,9 +228,12 @@ fn a_stream() {
     let (table, _) = two_jobs();
     let request = start().table(&table).request(3);
     assert_eq!(answers(&[]), "");
-    assert_eq!(answers(&request.repeat(3)), "times 2 8\n".repeat(3));
+    assert_eq!(
+        answers(&request.repeat(3)),
+        "times 2 8 jobs 0 0\n".repeat(3)
+    );
     let broken = [request.clone(), vec![0], request].concat();
-    assert_eq!(answers(&broken), "times 2 8\nbad request\n");
+    assert_eq!(answers(&broken), "times 2 8 jobs 0 0\nbad request\n");
 }
 
 #[test]

@@ -1,5 +1,5 @@
-//! Document 01, "Bench figures", with those that document 02, item 5, changes. A is record 1 and B
-//! is (4,10,10).
+//! Document 01, "Bench figures", with those that document 02, item 5, changes, and ours for item 4. A
+//! is record 1 and B is (4,10,10).
 
 use super::*;
 use crate::analysis::*;
@@ -19,14 +19,14 @@ fn rows(table: &Table) -> Vec<Vec<u8>> {
 #[test]
 fn a_b_thresholds_1_2() {
     let table = assigned(&[(2, 5, 5), B], &[1, 2], &[1, 2]);
-    assert_eq!(response_times(&table), Ok(vec![Some(2), Some(8)]));
+    assert_eq!(response_times(&table), Ok(of_first_jobs(&[2, 8])));
     assert!(passes(&Tasks::of(&table)));
 }
 
 #[test]
 fn a_b_thresholds_1_1() {
     let table = assigned(&[(2, 5, 5), B], &[1, 2], &[1, 1]);
-    assert_eq!(response_times(&table), Ok(vec![Some(5), Some(6)]));
+    assert_eq!(response_times(&table), Ok(of_first_jobs(&[5, 6])));
     assert!(passes(&Tasks::of(&table)));
 }
 
@@ -100,7 +100,7 @@ fn three_tasks_of_source_001() {
 
 #[test]
 fn one_task_at_the_horizon() {
-    let time = |task| response_times(&assigned(&[task], &[1], &[1])).map(|times| times[0]);
+    let time = |task| times_of(&assigned(&[task], &[1], &[1])).map(|times| times[0]);
     assert_eq!(time((3, 2, 2)), Ok(None));
     assert_eq!(time((1_000_000, 1_000_000, 1_000_000)), Ok(Some(1_000_000)));
     assert_eq!(time((1_000_000, 999_999, 1_000_000)), Ok(None));
@@ -140,7 +140,7 @@ fn first_jobs_of_table_1() {
 fn all_of_table_1() {
     let table = table_1_of_source_002();
     let times = response_times(&table);
-    assert_eq!(times, Ok(vec![Some(1), Some(20), Some(25), Some(24)]));
+    assert_eq!(times, Ok(of_first_jobs(&[1, 20, 25, 24])));
     let tasks = Tasks::of(&table);
     assert_eq!(
         [0, 1, 2, 3].map(|i| largest_blocker(&tasks, i)),
@@ -154,4 +154,47 @@ fn all_of_table_1() {
 #[test]
 fn published_check_value_of_the_seal() {
     assert_eq!(crate::seal::seal(b"123456789"), 0x29B1);
+}
+
+/// Tables on which a later job is the worst, the last of all is, the first and a later one reach R,
+/// and two later ones do: what the jobs of the last task take stands beside each.
+#[test]
+fn worst_jobs() {
+    let two = [(3, 6, 6), (2, 4, 6)];
+    for (tasks, thresholds, times, jobs) in [
+        // 5, 6, 4
+        (&two[..], &[1, 2][..], &[3, 6][..], &[0, 1][..]),
+        // 5, 6
+        (
+            &[(1, 6, 6), (2, 4, 4), (2, 6, 6)],
+            &[1, 1, 1],
+            &[2, 4, 6],
+            &[0, 0, 1],
+        ),
+        // 3, 3, 2
+        (
+            &[(1, 3, 3), (1, 8, 8), (1, 2, 3)],
+            &[1, 1, 3],
+            &[1, 2, 3],
+            &[0, 0, 0],
+        ),
+        // 4, 5, 5, 3
+        (
+            &[(1, 6, 6), (2, 4, 4), (1, 3, 5)],
+            &[1, 1, 2],
+            &[2, 3, 5],
+            &[0, 0, 1],
+        ),
+    ] {
+        let priorities: Vec<u32> = (1..=tasks.len() as u32).collect();
+        let table = assigned(tasks, &priorities, thresholds);
+        let each = times.iter().zip(jobs);
+        let responses = each.map(|(time, job)| {
+            Some(Response {
+                time: *time,
+                job: *job,
+            })
+        });
+        assert_eq!(response_times(&table), Ok(responses.collect()));
+    }
 }

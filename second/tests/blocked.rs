@@ -6,7 +6,7 @@ use crate::analysis::*;
 use crate::lengths::{lengths, regions_fit, tolerances};
 
 fn times(table: &Table) -> Vec<Option<i64>> {
-    response_times(table).expect("refused")
+    times_of(table).expect("refused")
 }
 
 /// A above B above C, which nothing of B's priority or below cuts.

@@ -102,14 +102,20 @@ fn jobs(tasks: &[Task], i: Task) -> Option<i64> {
     Some(ceil(active_period(tasks, i)?, i.t))
 }
 
-fn response(tasks: &[Task], i: Task) -> Option<i64> {
+fn response(tasks: &[Task], i: Task) -> Option<Response> {
     let differences: Option<Vec<i64>> = (0..=jobs(tasks, i)? - 1)
         .map(|k| Some(finish(tasks, i, start(tasks, i, k)?)? - k * i.t))
         .collect();
-    differences?.into_iter().max()
+    let differences = differences?;
+    let time = differences.iter().copied().max()?;
+    let first = differences.iter().position(|other| *other == time)?;
+    Some(Response {
+        time,
+        job: first as u64,
+    })
 }
 
-pub fn responses(table: &Table) -> Vec<Option<i64>> {
+pub fn responses(table: &Table) -> Vec<Option<Response>> {
     let tasks = tasks_of(table);
     tasks.iter().map(|i| response(&tasks, *i)).collect()
 }
@@ -175,7 +181,7 @@ fn table_of_load(dice: &mut Dice, n: u32, hundredths: u32) -> Table {
 #[test]
 fn response_times_value_by_value() {
     let mut dice = Dice::new(1);
-    let (mut beyond, mut later_job_worse) = (0, 0);
+    let (mut beyond, mut later_job_worse, mut named) = (0, 0, 0);
     for _ in 0..400 {
         let n = dice.from_to(1, 5);
         let table = small_table(&mut dice, n);
@@ -183,12 +189,15 @@ fn response_times_value_by_value() {
         assert_eq!(response_times(&table), Ok(times.clone()), "{table:?}");
         beyond += times.iter().filter(|time| time.is_none()).count();
         later_job_worse += count_later_job_worse(&tasks_of(&table), &times);
+        let later = |time: &&Option<Response>| time.is_some_and(|time| time.job > 0);
+        named += times.iter().filter(later).count();
     }
     // The tables are worth the trouble only if both of these come up, and often.
     assert!(
         beyond > 20 && later_job_worse > 20,
         "{beyond} {later_job_worse}"
     );
+    assert_eq!(named, later_job_worse);
 }
 
 /// Of many tasks a full load would take too long to try out, so few of these have one.
@@ -209,12 +218,12 @@ fn response_times_of_many_value_by_value() {
 }
 
 /// How many tasks have a response time that their first job does not show.
-fn count_later_job_worse(tasks: &[Task], times: &[Option<i64>]) -> usize {
+fn count_later_job_worse(tasks: &[Task], times: &[Option<Response>]) -> usize {
     let first_job = |i: Task| finish(tasks, i, start(tasks, i, 0)?);
     tasks
         .iter()
         .zip(times)
-        .filter(|(i, time)| time.is_some() && first_job(**i) < **time)
+        .filter(|(i, time)| time.is_some() && first_job(**i) < time_of(**time))
         .count()
 }
 
@@ -225,7 +234,7 @@ fn passing_is_all_times_within_deadlines() {
     for _ in 0..2000 {
         let n = dice.from_to(1, MOST_TASKS as u32);
         let table = small_table(&mut dice, n);
-        let times = response_times(&table).expect("refused");
+        let times = times_of(&table).expect("refused");
         let in_time = table
             .tasks()
             .iter()
@@ -359,8 +368,8 @@ fn row_passes(table: &Table, row: &[u8]) -> bool {
         && responses(&table)
             .iter()
             .zip(table.tasks())
-            .all(|(time, task)| match time {
-                Some(ticks) => *ticks <= task.deadline as i64,
+            .all(|(response, task)| match response {
+                Some(response) => response.time <= task.deadline as i64,
                 None => false,
             })
 }

@@ -96,6 +96,52 @@ fn a_length_of_0_fails() {
     assert_eq!(said, "request 1: lengths can't answer `lengths 2 0`");
 }
 
+/// A job stands beside each time and beside nothing else.
+#[test]
+fn times_without_their_jobs_fail() {
+    let tasks = [(3, 6, 6), (2, 4, 6), (1, 100, 100)];
+    let table = assigned(&tasks, &[1, 2, 3], &[1, 2, 3]);
+    let mut body = Vec::new();
+    generate::put_table(&mut body, &table);
+    let stream = [&[3][..], &(body.len() as u16).to_be_bytes(), &body].concat();
+    let right = "times 3 6 beyond jobs 0 1 -";
+    assert_eq!(answers(&stream), format!("{right}\n").as_bytes());
+    assert_eq!(missing(&stream, right.as_bytes()), None);
+    for wrong in [
+        "times 3 6 beyond",
+        "times 3 6 beyond jobs",
+        "times 3 6 beyond jobs 0 1",
+        "times 3 6 beyond jobs 0 1 0",
+        "times 3 6 beyond jobs 0 - -",
+        "times 3 6 beyond jobs 0 1 - -",
+        "times 3 6 beyond jobs 0 -1 -",
+        "times 3 6 jobs 0 1",
+    ] {
+        let said = missing(&stream, wrong.as_bytes()).expect("a failure");
+        let line = format!("request 1: response times can't answer `{wrong}`");
+        assert_eq!(said, line);
+    }
+}
+
+/// Of a stream that has ten answers with a worst job above 0 it is said that they are too few.
+#[test]
+fn too_few_later_jobs_are_named() {
+    let later = |request: &Vec<u8>| {
+        let line = String::from_utf8(answers(request)).expect("text");
+        let jobs = line.trim_end().split(" jobs ").nth(1).unwrap_or("-");
+        jobs.split(' ').any(|job| job != "-" && job != "0")
+    };
+    let requests = requests(5, COUNT + 2_000);
+    let (with, mut stream): (Vec<_>, Vec<_>) = requests
+        .into_iter()
+        .partition(|request| request[0] == 3 && later(request));
+    stream.extend(with[..10].iter().cloned());
+    let whole = stream.concat();
+    let said = missing(&whole, &answers(&whole)).expect("too few");
+    let line = "response times, a worst job above 0: came 10 times in ";
+    assert!(said.lines().any(|said| said.starts_with(line)), "{said}");
+}
+
 #[test]
 fn an_unanswered_request_fails() {
     let stream = requests(5, 1).concat();

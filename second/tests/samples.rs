@@ -2,7 +2,7 @@
 
 use super::brute::{all_lengths, all_tolerances, responses};
 use super::*;
-use crate::analysis::{passes, response_times, Tasks};
+use crate::analysis::{passes, Tasks};
 use crate::checks::Refusal;
 use crate::file::read;
 use crate::lengths::{lengths, regions_fit, tolerances};
@@ -105,7 +105,7 @@ fn two_jobs() {
 #[test]
 fn two_jobs_assigned() {
     let (table, own) = cabinet(&TWO_JOBS_ASSIGNED, &[]).expect("refused");
-    assert_eq!(response_times(&table), Ok(vec![Some(2), Some(8)]));
+    assert_eq!(response_times(&table), Ok(of_first_jobs(&[2, 8])));
     assert_eq!(lengths(&table), Ok(vec![2, 4]));
     assert_eq!(regions_fit(&table, &own, &[]), Ok(true));
     let text = "tasks 2\n1 2 1 1\n1 2 1 2\nend 2\n";
@@ -121,7 +121,7 @@ fn damaged() {
 #[test]
 fn packer_six() {
     let (table, own) = cabinet(&PACKER_SIX, &[]).expect("refused");
-    let times = [2, 10, 20, 27, 87, 98].map(Some).to_vec();
+    let times = of_first_jobs(&[2, 10, 20, 27, 87, 98]);
     assert_eq!(responses(&table), times);
     assert_eq!(response_times(&table), Ok(times));
     assert!(passes(&Tasks::of(&table)));
@@ -159,7 +159,7 @@ fn tight_six() {
 fn press_eight() {
     let catalogue = words_of(PRESS_EIGHT_CATALOGUE);
     let (table, own) = cabinet(&PRESS_EIGHT, &catalogue).expect("refused");
-    let times = [2, 6, 14, 79, 34, 19, 112, 113].map(Some).to_vec();
+    let times = of_first_jobs(&[2, 6, 14, 79, 34, 19, 112, 113]);
     assert_eq!(responses(&table), times);
     assert_eq!(response_times(&table), Ok(times));
     assert!(passes(&Tasks::of(&table)));
@@ -175,8 +175,9 @@ fn packer_fifteen() {
     let catalogue = words_of(PACKER_FIFTEEN_CATALOGUE);
     let (table, own) = cabinet(&PACKER_FIFTEEN, &catalogue).expect("refused");
     let times = [1, 2, 5, 8, 13, 16, 30, 36, 40, 69, 75, 95, 196, 266, 280];
-    assert_eq!(response_times(&table), Ok(times.map(Some).to_vec()));
-    assert_eq!(responses(&table), times.map(|time| Some(time as i64)));
+    let times = of_first_jobs(&times);
+    assert_eq!(responses(&table), times);
+    assert_eq!(response_times(&table), Ok(times));
     assert!(passes(&Tasks::of(&table)));
     let ticks = [5, 6, 10, 13, 13, 18, 15, 22, 6, 15, 25, 10, 33, 38, 41];
     assert_eq!(tolerances(&table), Ok(ticks.to_vec()));

@@ -21,7 +21,41 @@ fn put_time(buf: &mut [u8], at: usize, time: Time) -> usize
     }
 }
 
-fn put_times(buf: &mut [u8], at: usize, times: [Response; MOST_TASKS], n: usize) -> usize
+// The number of the job that reached a time.
+fn put_job(buf: &mut [u8], at: usize, time: Time, job: u64) -> usize
+    requires { ⌜ at ≤ length (now buf) ⌝ }
+    ensures { λ r. ⌜ r ≤ length (now (buf .entry)) ⌝ }
+{
+    match time {
+        Time::At(_) => say::number(buf, at, job),
+        Time::Beyond => say::word(buf, at, b" -"),
+    }
+}
+
+// What is said of each response: its time, or the job that reached it.
+enum Half {
+    Times,
+    Jobs,
+}
+
+fn put_half(buf: &mut [u8], at: usize, half: Half, response: Response) -> usize
+    requires { ⌜ at ≤ length (now buf) ⌝ }
+    ensures { λ r. ⌜ r ≤ length (now (buf .entry)) ⌝ }
+{
+    let time = response.time;
+    match half {
+        Half::Times => put_time(buf, at, time),
+        Half::Jobs => put_job(buf, at, time, response.job),
+    }
+}
+
+fn put_halves(
+    buf: &mut [u8],
+    at: usize,
+    half: Half,
+    times: [Response; MOST_TASKS],
+    n: usize,
+) -> usize
     requires { ⌜ at ≤ length (now buf) ⌝ }
     requires { ⌜ n ≤ mostTasks ⌝ }
     ensures { λ r. ⌜ r ≤ length (now (buf .entry)) ⌝ }
@@ -29,19 +63,20 @@ fn put_times(buf: &mut [u8], at: usize, times: [Response; MOST_TASKS], n: usize)
     let mut end = at;
     let mut k: usize = 0;
     while k < n {
-        let response = times[k];
-        let time = response.time;
-        end = put_time(buf, end, time);
+        end = put_half(buf, end, half, times[k]);
         k += 1;
     }
     end
 }
 
 fn put_responses(buf: &mut [u8], times: [Response; MOST_TASKS], n: usize) -> usize
+    requires { ⌜ n ≤ mostTasks ⌝ }
     ensures { λ r. ⌜ r ≤ length (now (buf .entry)) ⌝ }
 {
     let named = say::word(buf, 0, b"times");
-    put_times(buf, named, times, fronts::smaller(n, MOST_TASKS))
+    let timed = put_halves(buf, named, Half::Times, times, n);
+    let parted = say::word(buf, timed, b" jobs");
+    put_halves(buf, parted, Half::Jobs, times, n)
 }
 
 pub fn response_times(buf: &mut [u8], body: &[u8]) -> usize
@@ -55,7 +90,7 @@ pub fn response_times(buf: &mut [u8], body: &[u8]) -> usize
         Outcome::Refused(r) => say::refused(buf, 0, r),
         Outcome::Done => {
             let times = answer.times;
-            put_responses(buf, times, n)
+            put_responses(buf, times, fronts::smaller(n, MOST_TASKS))
         }
     }
 }

@@ -1,7 +1,7 @@
 // The calls, for the programs in other languages that measure their time and their stack. A table comes as a request has it; a
 // slice is two parameters there, its start and its length. Where a call is turned away, the answer is the refusal's number.
 // Only those programs link this crate: `bench_passes` has a `requires`, which nothing checks on the other side.
-ghost use Prim.Native.Nat.{_≤_};
+ghost use Prim.Native.Nat.{_*_, _≤_};
 ghost use Rattle.paper.specs.Numbers.{horizon};
 ghost use Rattle.columns.specs.Columns.{tasksBy, assignedBy, Ranged, Placed};
 use columns::Numbers;
@@ -43,23 +43,23 @@ pub extern "C" fn bench_write(table: &[u8], own: &[u32], out: &mut [u8]) -> u64 
     }
 }
 
-// No answer lies above the horizon: the remainder only says so where the sum is proved not to wrap.
-fn ticks(r: Response) -> u64
-    ensures { λ x. ⌜ x ≤ horizon ⌝ }
+// A response time and its job. Neither lies above the horizon: the remainders only say so where the sum is proved not to wrap.
+fn both(r: Response) -> u64
+    ensures { λ x. ⌜ x ≤ 2 * horizon ⌝ }
 {
     let time = r.time;
     match time {
-        Time::At(x) => x % (HORIZON + 1),
+        Time::At(x) => x % (HORIZON + 1) + r.job % (HORIZON + 1),
         Time::Beyond => 0,
     }
 }
 
-// The sum of all response times, so that none can be left out.
+// The sum of all response times and of their jobs, so that none can be left out.
 fn sum_of(times: [Response; MOST_TASKS]) -> u64 {
     let mut sum: u64 = 0;
     let mut k: usize = 0;
     while k < MOST_TASKS {
-        sum = sum + ticks(times[k]);
+        sum = sum + both(times[k]);
         k += 1;
     }
     sum

@@ -10,7 +10,7 @@ use lib.Dec.{T, leb, ltb, eqb, leb→le, le→leb}
 use lib.IntN.{ℤ, pos, negsuc}
 use lib.Signed.{_≤ℤ_}
 use Rattle.paper.specs.Numbers.{horizon, Assignment}
-use Rattle.paper.specs.Analysis.{Tasks, before, by, load, blocks, blocking, standing, levelSum, levelOf, startSum, startOf, finishSum, finishOf, finishFrom, job, taskPasses}
+use Rattle.paper.specs.Analysis.{Tasks, before, by, load, blocks, blocking, standing, levelSum, levelOf, startSum, startOf, finishSum, finishOf, finishFrom, job, withJob, taskPasses}
 use Rattle.paper.specs.Lengths.{slack, tolerance, allowed, lengthOf}
 use Rattle.paper.specs.declared.Time.{Time}
 use Rattle.paper.specs.declared.Time.the-variants.{At, Beyond}
@@ -178,7 +178,7 @@ module _ (y : Tasks) (a : Assignment) (i : ℕ) (w : Cut y a i) where
 
   -- R(i) ≤ D(i) exactly where the blocking in L and S is at most the tolerance
   pub tolerated : (taskPasses y a i ≡ true) ↔ (pos (blocking y a i - 1) ≤ℤ tolerance y a i)
-  unfolding taskPasses
+  unfolding taskPasses withJob
   tolerated = (
     λ e.
         let o = within-jobs y (standing y a i) i (y .d i) .0 e in

@@ -5,7 +5,7 @@ use native.Mathlib.Omega.{arith}
 use native.Mathlib.Nat.{le-trans}
 use Rattle.paper.specs.Vocabulary.{ceilDiv}
 use Rattle.paper.specs.Numbers.{horizon}
-use Rattle.paper.specs.Analysis.{Tasks, Standing, before, levelOf, startOf, finishOf, finishFrom, job, worst, worstFrom, response}
+use Rattle.paper.specs.Analysis.{Tasks, Standing, before, levelOf, startOf, finishOf, finishFrom, job, worstFrom, response}
 use Rattle.paper.specs.declared.Time.{Time}
 use Rattle.paper.specs.declared.Time.the-variants.{At, Beyond}
 use Rattle.laws.proofs.Arrivals.{ceil-bound}
@@ -76,15 +76,7 @@ module _ (y : Tasks) (s : Standing) (i : ℕ) where
       go (At l) f e = let z : ceilDiv l (y .t i) ≡ jobs = cc in rw (← z) (le-trans (ceil-bound (y .t i) l ht) (range l f))
       go Beyond f e = let z : _≡_ {A = ℕ} 0 1 = cc in absurd (omega arith)
 
-  -- R is the worst of these
-  pub response-at : (jobs : ℕ) → jobCount y s i ≡ At jobs → worst y s i jobs ≡ response y s i
-  unfolding jobCount countFrom response worstFrom
-  response-at jobs h = go (levelOf y s) h
-    where
-      go : (v : Time) → countFrom y i v ≡ At jobs → worst y s i jobs ≡ worstFrom y s i v
-      go (At l) e = let z : before y l i ≡ jobs = cc in rw (← z)
-      go Beyond e = let z : _≡_ {A = ℕ} 0 1 = cc in absurd (omega arith)
-
+  -- where they can't be counted, there is no R
   pub response-beyond : jobCount y s i ≡ Beyond → response y s i ≡ Beyond
   unfolding jobCount countFrom response worstFrom
   response-beyond h = go (levelOf y s) h

@@ -5,7 +5,7 @@ use mathlib.Core.Bool.{Bool, not, cond, _&&_}
 use native.Mathlib.Omega.{arith}
 use lib.Dec.{leb, ltb, eqb}
 use Rattle.paper.specs.Numbers.{horizon, eachOnce, Assignment, thresholdsHold}
-use Rattle.paper.specs.Analysis.{Tasks, Standing, before, load, blocks, blocking, standing, levelSum, levelOf, startSum, startOf, finishSum, finishOf, finishFrom, job, later, worst, worstFrom, response, within, taskPasses, passes}
+use Rattle.paper.specs.Analysis.{Tasks, Standing, before, load, blocks, blocking, standing, levelSum, levelOf, startSum, startOf, finishSum, finishOf, finishFrom, job, later, worst, worstFrom, response, withJob, within, taskPasses, passes}
 use Rattle.paper.specs.declared.Time.{Time}
 use Rattle.paper.specs.declared.Time.the-variants.{At, Beyond}
 use Rattle.laws.proofs.Every.{every-same, sum-same}
@@ -86,7 +86,7 @@ module _ (y : Tasks) where
         }
 
     pub passes-agree : passes y a ≡ passes y b
-    unfolding passes taskPasses
+    unfolding passes taskPasses withJob
     passes-agree =
         every-same (y .n) _ _ (λ i l. ap (λ r. within r (y .d i)) (response-agree (standing y a i) (standing y b i) (standing-agree i l) i))
 

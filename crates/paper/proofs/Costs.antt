@@ -6,7 +6,7 @@ use native.Mathlib.Omega.{arith}
 use native.Mathlib.Nat.{zero-mul}
 use borrow.Author.Tests.{eqb-true}
 use Rattle.paper.specs.Numbers.{Assignment}
-use Rattle.paper.specs.Analysis.{Tasks, Standing, standing, startOf, finishSum, finishOf, finishFrom, job, taskPasses, passes}
+use Rattle.paper.specs.Analysis.{Tasks, Standing, standing, startOf, finishSum, finishOf, finishFrom, job, withJob, taskPasses, passes}
 use Rattle.paper.specs.declared.Time.{Time}
 use Rattle.paper.specs.declared.Time.the-variants.{At, Beyond}
 use Rattle.paper.proofs.Tests.{every-fails}
@@ -32,5 +32,5 @@ cost-above-deadline y a i l ht h = every-fails (y .n) (taskPasses y a) i l (fail
         omega (arith, j .ok, zero-mul (y .t i), finish-least y (standing y a i) i 0 (j .f) (j .finish))
 
     fails : (b : Bool) → taskPasses y a i ≡ b → b ≡ false
-    fails true e = absurd (late (within-jobs y (standing y a i) i (y .d i) .0 (unfold taskPasses in e)))
+    fails true e = absurd (late (within-jobs y (standing y a i) i (y .d i) .0 (unfold taskPasses withJob in e)))
     fails false e = refl

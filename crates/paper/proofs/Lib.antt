@@ -4,6 +4,7 @@ pub mod Searched
 pub mod Figures
 pub mod Asked
 pub mod Responses
+pub mod Earlier
 pub mod Lengths
 pub mod Reading
 pub mod Rows

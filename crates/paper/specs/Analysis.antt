@@ -1,11 +1,12 @@
--- Document 01, "The analysis": response times; blocking on a ticking controller by document 02, item 5. Task i is record i + 1.
+-- Document 01, "The analysis": response times; blocking on a ticking controller by document 02, item 5, and which job was worst by item 4. Task i is record i + 1.
 use Prim.Native.Nat.{ℕ, zero, suc, _+_, _-_, _*_, _/_, max}
 use mathlib.Core.Bool.{Bool, true, false, _&&_, cond}
 use mathlib.Core.List.{List}
 use lib.Dec.{leb, ltb, eqb}
-use Rattle.paper.specs.Vocabulary.{every, sumTo, maxTo, ceilDiv}
+use Rattle.paper.specs.Vocabulary.{every, lowest, sumTo, maxTo, ceilDiv}
 use Rattle.paper.specs.Numbers.{rec, horizon, Assignment}
 use Rattle.paper.specs.declared.Record.{Record}
+use Rattle.paper.specs.declared.Response.{Response}
 use Rattle.paper.specs.declared.Time.{Time}
 use Rattle.paper.specs.declared.Time.the-variants.{At, Beyond}
 
@@ -110,13 +111,32 @@ worstFrom y s i Beyond = Beyond
 unfoldable pub response : Tasks → Standing → ℕ → Time
 response y s i = worstFrom y s i (levelOf y s)
 
+-- Beside R stands the number k of the job that reached it; where several reach the same value, the first. Jobs count from 0, `lowest` from 1, so 1 is taken off.
+-- R is above zero, so that a difference below zero, counted as 0, never reaches it.
+unfoldable pub reaches : Time → ℕ → ℕ → Bool
+reaches (At f) released r = eqb (f - released) r
+reaches Beyond released r = false
+
+-- Where R is "beyond" k is 0 and means nothing.
+unfoldable pub firstReaching : Tasks → Standing → ℕ → ℕ → Time → ℕ
+firstReaching y s i count (At r) = lowest count (λ k. reaches (job y s i k) (k * y .t i) r) - 1
+firstReaching y s i count Beyond = 0
+
+-- over jobs k from 0 to ceil(L/T(i)) − 1
+unfoldable pub worstJob : Tasks → Standing → ℕ → Time → Time → ℕ
+worstJob y s i (At l) r = firstReaching y s i (before y l i) r
+worstJob y s i Beyond r = 0
+
+unfoldable pub withJob : Tasks → Standing → ℕ → Response
+withJob y s i = record { time = response y s i; job = worstJob y s i (levelOf y s) (response y s i) }
+
 -- An assignment passes when every R(i) exists and R(i) ≤ D(i)
 unfoldable pub within : Time → ℕ → Bool
 within (At r) d = leb r d
 within Beyond d = false
 
 unfoldable pub taskPasses : Tasks → Assignment → ℕ → Bool
-taskPasses y a i = within (response y (standing y a i) i) (y .d i)
+taskPasses y a i = within (withJob y (standing y a i) i .time) (y .d i)
 
 unfoldable pub passes : Tasks → Assignment → Bool
 passes y a = every (y .n) (taskPasses y a)

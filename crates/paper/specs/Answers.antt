@@ -9,7 +9,7 @@ use lib.ListN.{length, take, drop, replicate}
 use Rattle.paper.specs.Numbers.{mostTasks, perTask, zeroRecord, rec, assigned}
 use Rattle.paper.specs.File.{tasksIn, wordsIn, fileLength, regionWords, tableIn, fileOf}
 use Rattle.paper.specs.Regions.{Part, partOf, noPart, listOf, recordPart, regionsPart, nameList, namePart}
-use Rattle.paper.specs.Analysis.{Tasks, tasksOf, standing, response}
+use Rattle.paper.specs.Analysis.{Tasks, tasksOf, standing, withJob}
 use Rattle.paper.specs.Lengths.{tolerance, lengthOf, allFit}
 use Rattle.paper.specs.Rows.{rowSize, Next, Ended}
 use Rattle.paper.specs.Refusals.{firstOf, readAsks, recordAsks, writeAsks, timesAsks, tolerancesAsks, lengthsAsks, fitAsks, firstAsks, nextAsks, regionsAsks, nameAsks}
@@ -75,13 +75,13 @@ abbrev pub writeOut : Table → ℕ → ℕ → List ℕ → List ℕ → List �
 writeOut t cabinet line own catalogue out =
     fileFor (writeOutcome t cabinet line own catalogue (length out)) t cabinet line own out
 
--- Response times: for each task its R, or beyond
+-- Response times: for each task its R with the job that reached it, or beyond with job 0
 abbrev pub noTime : Response
-noTime = record { time = At 0 }
+noTime = record { time = At 0; job = 0 }
 
 abbrev pub timeOf : Table → ℕ → Response
 timeOf t i =
-    record { time = response (tasksOf (t .records) (t .n)) (standing (tasksOf (t .records) (t .n)) (assigned (t .records)) i) i }
+    withJob (tasksOf (t .records) (t .n)) (standing (tasksOf (t .records) (t .n)) (assigned (t .records)) i) i
 
 abbrev pub timesFor : Outcome → Table → TimesAnswer
 timesFor o t = record { outcome = o; times = whenDone o (perTask (t .n) (timeOf t) noTime) (replicate mostTasks noTime) }

@@ -1,5 +1,5 @@
 -- Document 01, "Bench figures": those marked P, as document 02, item 5, changes them, as one table of what is asked and what comes out.
--- The papers' figures would let some wrong rules of item 5 pass. Those marked "ours" stand beside them for that, worked out by hand.
+-- The papers' figures would let some wrong rules of items 4 and 5 pass. Those marked "ours" stand beside them for that, worked out by hand.
 use Prim.Native.Nat.{ℕ, zero, suc, _+_, _-_}
 use mathlib.Core.Bool.{Bool, true, false, _&&_, cond}
 use mathlib.Core.List.{List, [], _∷_, _++_, map}
@@ -24,6 +24,7 @@ use Rattle.paper.specs.declared.FitAnswer.the-variants as Fit
 -- what a figure asks; records are numbered from 1
 pub data Asked : Type 0 where
   responseOf : Table → ℕ → Asked
+  worstOf : Table → ℕ → Asked
   passing : Table → Asked
   rowsOf : Table → Asked
   toleranceOf : Table → ℕ → Asked
@@ -73,6 +74,7 @@ passingRows t =
 
 abbrev pub comesOut : Asked → Came
 comesOut (responseOf t k) = came (timesAnswer t .outcome) (timeCame (getD (timesAnswer t .times) (k - 1) noTime .time))
+comesOut (worstOf t k) = came (timesAnswer t .outcome) (number (pos (getD (timesAnswer t .times) (k - 1) noTime .job)))
 comesOut (passing t) = says (passes (tasksOf (t .records) (t .n)) (assigned (t .records)))
 comesOut (rowsOf t) = rows (passingRows t)
 comesOut (toleranceOf t k) = came (tolerancesAnswer t .outcome) (number (getD (tolerancesAnswer t .ticks) (k - 1) (pos 0)))
@@ -109,6 +111,22 @@ blocked = table (task 1 4 4 1 1 0 1 ∷ task 1 10 10 2 1 0 1 ∷ task 4 20 20 3 
 -- ours: A (1,2,2), B (1,2,2), C (1,10,10), that order, thresholds 1 2 2: A and B leave no tick free, and C blocks B
 abbrev pub full : Table
 full = table (task 1 2 2 1 1 0 1 ∷ task 1 2 2 2 2 0 1 ∷ task 1 10 10 3 2 0 1 ∷ [])
+
+-- ours: A (3,6,6), B (2,4,6), that order, thresholds 1 2. L(B) = 12; B's jobs finish at 5, 10, 12
+abbrev pub laterWorst : Table
+laterWorst = table (task 3 6 6 1 1 0 1 ∷ task 2 4 6 2 2 0 1 ∷ [])
+
+-- ours: A (1,6,6), B (2,4,4), C (2,6,6), that order, thresholds 1 1 1. L(C) = 12; C's jobs finish at 5, 12
+abbrev pub lastWorst : Table
+lastWorst = table (task 1 6 6 1 1 0 1 ∷ task 2 4 4 2 1 0 1 ∷ task 2 6 6 3 1 0 1 ∷ [])
+
+-- ours: A (1,3,3), B (1,8,8), C (1,2,3), that order, thresholds 1 1 3. L(C) = 6; C's jobs finish at 3, 5, 6
+abbrev pub tiedFirst : Table
+tiedFirst = table (task 1 3 3 1 1 0 1 ∷ task 1 8 8 2 1 0 1 ∷ task 1 2 3 3 3 0 1 ∷ [])
+
+-- ours: A (1,6,6), B (2,4,4), C (1,3,5), that order, thresholds 1 1 2. L(C) = 12; C's jobs finish at 4, 8, 11, 12
+abbrev pub tiedLater : Table
+tiedLater = table (task 1 6 6 1 1 0 1 ∷ task 2 4 4 2 1 0 1 ∷ task 1 3 5 3 2 0 1 ∷ [])
 
 pub record Figure : Type 0 where
   pub asked : Asked
@@ -157,4 +175,15 @@ figures =
     -- ours, the 1 + floor form where something blocks: behind 3 ticks of C and one of A, B would start at 4, but A arrives there. B starts at 5, and R(B) = 6
     (responseOf blocked 2 gives number (pos 6)) ∷
     -- ours, a blocker of cost 1: it blocks for no tick. B starts at 1, between two jobs of A, and R(B) = 2; a tick more in L, and B is beyond
-    (responseOf full 2 gives number (pos 2)) ∷ []
+    (responseOf full 2 gives number (pos 2)) ∷
+    -- ours, a later job is the worst: B's differences are 5, 6, 4, so R(B) = 6, by job 1
+    (responseOf laterWorst 2 gives number (pos 6)) ∷
+    (worstOf laterWorst 2 gives number (pos 1)) ∷
+    -- ours, the last of all is: C's differences are 5, 6, so R(C) = 6, by job 1
+    (responseOf lastWorst 3 gives number (pos 6)) ∷
+    (worstOf lastWorst 3 gives number (pos 1)) ∷
+    -- ours, two reach the same value: C's differences are 3, 3, 2, so R(C) = 3, by job 0; and 4, 5, 5, 3, so R(C) = 5, by job 1
+    (responseOf tiedFirst 3 gives number (pos 3)) ∷
+    (worstOf tiedFirst 3 gives number (pos 0)) ∷
+    (responseOf tiedLater 3 gives number (pos 5)) ∷
+    (worstOf tiedLater 3 gives number (pos 1)) ∷ []

@@ -88,17 +88,20 @@ pub enum WriteAnswer {
     Refused(Refusal),
 }
 
-// A response time, or none at or below the horizon.
+// A response time, or none: L, a start or a finish has no solution at or below the horizon.
 pub enum Time {
     At(u64),
     Beyond,
 }
 
+// A response time, and the number k of the job of the active period that reached it. The jobs count from 0; where several
+// reached it, k is the first of them. Where the time is beyond, k is 0 and means nothing.
 pub struct Response {
     pub time: Time,
+    pub job: u64,
 }
 
-// Response times of records 1 to n. The others, and all on a refusal, are at 0.
+// Response times of records 1 to n. The others, and all on a refusal, are time 0 and job 0, and neither means anything.
 pub struct TimesAnswer {
     pub outcome: Outcome,
     pub times: [Response; MOST_TASKS],

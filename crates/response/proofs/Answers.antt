@@ -14,7 +14,7 @@ use Rattle.columns.specs.Columns.{columnOf, columnsOf, tasksBy, assignedBy, Pla
 use Rattle.columns.specs.declared.Column.the-variants.{Priority, Threshold}
 use Rattle.columns.proofs.Tables.{tasks-by, assigned-by}
 use Rattle.outcomes.proofs.Meaning.{times-done, times-placed}
-use Rattle.response.specs.Bounds.{answerOf}
+use Rattle.response.specs.Bounds.{responseOf}
 
 -- a call that is turned away
 pub refused-is : (t : Table) (why : Refusal) (times : List Response) → firstOf (timesAsks t) ≡ Refused why → times ≡ replicate mostTasks noTime → record { outcome = Refused why; times = times } ≡ timesAnswer t
@@ -27,7 +27,7 @@ module _ (t : Table) (done : firstOf (timesAsks t) ≡ Done) where
     placed-is = rw (ep, eh, assigned-by (t .records) size) (times-placed t (times-done t done))
 
     pub done-is : {ys : List ℕ} → ys ≡ columnsOf (t .records) → (times : List Response)
-        → times ≡ perTask (t .n) (answerOf (tasksBy (t .n) ys) (assignedBy ps hs)) noTime → record { outcome = Done; times = times } ≡ timesAnswer t
+        → times ≡ perTask (t .n) (responseOf (tasksBy (t .n) ys) (assignedBy ps hs)) noTime → record { outcome = Done; times = times } ≡ timesAnswer t
     done-is ey times q =
         ap (λ xs. record { outcome = Done; times = xs }) (q ∙ rw (ey, ep, eh, tasks-by (t .records) (t .n) size, assigned-by (t .records) size))
         ∙ sym (ap (λ o. timesFor o t) done)

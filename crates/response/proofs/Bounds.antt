@@ -1,45 +1,49 @@
--- The worst of several jobs, step by step and up to a bound; R up to the horizon is R, and up to the deadline says whether a task passes.
+-- The worst of several jobs with the first that reaches it, step by step and up to a bound; R up to the horizon is R, and up to the deadline says whether a task passes.
 use Prim.Native.Nat.{ℕ, zero, suc, _+_, _-_, _*_, _≤_, _<_, max}
 use mathlib.Core.Path.{_≡_, refl, ap, sym, _∙_}
-use mathlib.Core.Bool.{Bool, true, false, cond}
+use mathlib.Core.Bool.{Bool, true, false, true≢false, cond}
 use native.Mathlib.Omega.{arith}
 use native.Mathlib.Numerals.{add-one}
+use lib.Dec.{ltb}
 use borrow.Author.Tests.{le-leb}
+use Rattle.paper.specs.Vocabulary.{lowest}
 use Rattle.paper.specs.Numbers.{horizon, Assignment}
-use Rattle.paper.specs.Analysis.{Tasks, Standing, levelOf, startOf, finishOf, finishFrom, job, later, worst, worstFrom, response, within, taskPasses}
+use Rattle.paper.specs.Analysis.{Tasks, Standing, before, levelOf, startOf, finishOf, finishFrom, job, later, worst, worstFrom, response, firstReaching, worstJob, withJob, within, taskPasses}
+use Rattle.paper.specs.declared.Response.{Response}
 use Rattle.paper.specs.declared.Time.{Time}
 use Rattle.paper.specs.declared.Time.the-variants.{At, Beyond}
-use Rattle.paper.proofs.Responses.{worst-jobs}
+use Rattle.paper.proofs.Responses.{first-more, beyond-job, worst-jobs}
 use Rattle.paper.proofs.Searched.{searched}
-use Rattle.jobs.specs.Stands.{standBy, standOf, jobCount}
+use Rattle.jobs.specs.Stands.{standBy, standOf, countFrom, jobCount}
 use Rattle.jobs.specs.declared.Stand.{Stand}
 use Rattle.jobs.proofs.Blocks.{stand-is}
-use Rattle.jobs.proofs.Spans.{response-at, response-beyond}
-use Rattle.response.specs.Bounds.{bounded, responseOf}
+use Rattle.jobs.proofs.Spans.{response-beyond}
+use Rattle.response.specs.Bounds.{tooLate, bounded, worstWith, responseOf}
 
 -- a time that is not within the bound, and one that is
-above : (most : ℕ) (r : Time) → (within r most ≡ true → ⊥) → Beyond ≡ bounded most r
+above : (most : ℕ) (r : Response) → (within (r .time) most ≡ true → ⊥) → tooLate ≡ bounded most r
 unfolding bounded
-above most r h = go (within r most) h
+above most r h = go (within (r .time) most) h
   where
-    go : (v : Bool) → (v ≡ true → ⊥) → Beyond ≡ cond v r Beyond
+    go : (v : Bool) → (v ≡ true → ⊥) → tooLate ≡ cond v r tooLate
     go true h = absurd (h refl)
     go false h = refl
 
 module _ (y : Tasks) (s : Standing) (i : ℕ) where
   module _ (most m k : ℕ) where
-    pub one-late : (f : ℕ) {t r : ℕ} → k < m → job y s i k ≡ At f → t ≡ y .t i → r ≡ f - k * t → most < r → Beyond ≡ bounded most (worst y s i m)
+    pub one-late : (f : ℕ) {t r : ℕ} → k < m → job y s i k ≡ At f → t ≡ y .t i → r ≡ f - k * t → most < r → tooLate ≡ bounded most (worstWith y s i m)
     one-late f l e et er h =
         let er = rw et at er in
         above most _ (λ w. let t = worst-jobs y s i most m .0 w k l in let q : t .f ≡ f = cc (t .finish) in omega (arith, t .ok))
 
-    pub one-beyond : k < m → job y s i k ≡ Beyond → Beyond ≡ bounded most (worst y s i m)
+    pub one-beyond : k < m → job y s i k ≡ Beyond → tooLate ≡ bounded most (worstWith y s i m)
     one-beyond l e =
         above most _ (λ w. let t = worst-jobs y s i most m .0 w k l in let q : _≡_ {A = ℕ} 0 1 = cc (t .finish) in omega arith)
 
-    pub all-within : (r : ℕ) → At r ≡ worst y s i k → r ≤ most → k ≡ m → At r ≡ bounded most (worst y s i m)
+    pub all-within : (r j : ℕ) → At r ≡ worst y s i k → j ≡ firstReaching y s i k (At r) → r ≤ most → k ≡ m
+        → record { time = At r; job = j } ≡ bounded most (worstWith y s i m)
     unfolding bounded within
-    all-within r e h q = rw (← q, ← e, le-leb r most h)
+    all-within r j e f h q = rw (← q, ← e, ← f, le-leb r most h)
 
   pub worst-none : At 0 ≡ worst y s i 0
   unfolding worst
@@ -49,6 +53,14 @@ module _ (y : Tasks) (s : Standing) (i : ℕ) where
       → At m ≡ worst y s i (k + 1)
   unfolding worst later
   worst-more k q f e g et er em = rw (add-one, ← e, g, em, er, et)
+
+  pub first-none : 0 ≡ firstReaching y s i 0 (At 0)
+  unfolding firstReaching lowest
+  first-none = refl
+
+  pub first-next : (k q j f : ℕ) {t r v m : ℕ} → At q ≡ worst y s i k → j ≡ firstReaching y s i k (At q) → job y s i k ≡ At f → t ≡ y .t i → r ≡ f - k * t
+      → v ≡ cond (ltb q r) k j → m ≡ max q r → v ≡ firstReaching y s i (k + 1) (At m)
+  first-next k q j f e ej g et er ev em = rw (add-one, ev, em, er, et, ej) (first-more y s i k q f (sym e) g)
 
   -- no F lies above the horizon, and so no R
   finish-range : (k f : ℕ) → job y s i k ≡ At f → f ≤ horizon
@@ -69,49 +81,66 @@ module _ (y : Tasks) (s : Standing) (i : ℕ) where
       go (At q) Beyond o g h = let z : _≡_ {A = ℕ} 0 1 = cc in absurd (omega arith)
       go Beyond v o g h = let z : _≡_ {A = ℕ} 0 1 = cc in absurd (omega arith)
 
-  pub horizon-bounds : bounded horizon (response y s i) ≡ response y s i
-  unfolding bounded within response worstFrom
-  horizon-bounds = level (levelOf y s)
+  response-range : (r : ℕ) → response y s i ≡ At r → r ≤ horizon
+  unfolding response worstFrom
+  response-range r e = level (levelOf y s) e
     where
-      whole : (r : Time) → ((q : ℕ) → r ≡ At q → q ≤ horizon) → cond (within r horizon) r Beyond ≡ r
-      whole (At q) h = rw (le-leb q horizon (h q refl))
-      whole Beyond h = refl
+      level : (l : Time) → worstFrom y s i l ≡ At r → r ≤ horizon
+      level (At l) h = worst-range _ r h
+      level Beyond h = let z : _≡_ {A = ℕ} 0 1 = cc in absurd (omega arith)
 
-      level : (l : Time) → cond (within (worstFrom y s i l) horizon) (worstFrom y s i l) Beyond ≡ worstFrom y s i l
-      level (At l) = whole _ (worst-range _)
-      level Beyond = refl
+  -- what isn't within the horizon is beyond
+  not-within : (r : Time) → response y s i ≡ r → within r horizon ≡ false → response y s i ≡ Beyond
+  unfolding within
+  not-within (At q) e f = absurd (true≢false (sym (le-leb q horizon (response-range q e)) ∙ f))
+  not-within Beyond e f = e
+
+  pub horizon-bounds : bounded horizon (withJob y s i) ≡ withJob y s i
+  unfolding bounded withJob
+  horizon-bounds = go (within (response y s i) horizon) refl
+    where
+      go : (v : Bool) → within (response y s i) horizon ≡ v → cond v (withJob y s i) tooLate ≡ withJob y s i
+      go true e = refl
+      go false e = sym (beyond-job y s i (not-within (response y s i) refl e))
+
+  -- R with its job is the worst of the jobs that L counts
+  with-at : (jobs : ℕ) → jobCount y s i ≡ At jobs → worstWith y s i jobs ≡ withJob y s i
+  unfolding jobCount countFrom withJob worstJob response worstFrom
+  with-at jobs h = go (levelOf y s) h
+    where
+      go : (v : Time) → countFrom y i v ≡ At jobs → worstWith y s i jobs ≡ record { time = worstFrom y s i v; job = worstJob y s i v (worstFrom y s i v) }
+      go (At l) e =
+          let z : jobs ≡ before y l i = cc in
+          ap (worstWith y s i) z
+      go Beyond e = let z : _≡_ {A = ℕ} 0 1 = cc in absurd (omega arith)
 
 -- R by the number of jobs, where task i stands at s
 module _ (y : Tasks) (a : Assignment) (i : ℕ) (h : ℕ → ℕ) (s : Stand) (e : s ≡ standOf y a i) (most : ℕ) where
-  stood : responseOf y a i ≡ response y (standBy (record { p = a .p; h = h }) s) (s .i)
-  stood = ap (λ v. response y v i) (stand-is y a i h s e) ∙ ap (λ (v : Stand). response y (standBy (record { p = a .p; h = h }) s) (v .i)) (sym e)
+  stood : responseOf y a i ≡ withJob y (standBy (record { p = a .p; h = h }) s) (s .i)
+  stood = ap (λ v. withJob y v i) (stand-is y a i h s e) ∙ ap (λ (v : Stand). withJob y (standBy (record { p = a .p; h = h }) s) (v .i)) (sym e)
 
   pub worst-is : (jobs : ℕ) → jobCount y (standBy (record { p = a .p; h = h }) s) (s .i) ≡ At jobs
-      → bounded most (worst y (standBy (record { p = a .p; h = h }) s) (s .i) jobs) ≡ bounded most (responseOf y a i)
-  worst-is jobs c = ap (bounded most) (response-at _ _ _ jobs c ∙ sym stood)
+      → bounded most (worstWith y (standBy (record { p = a .p; h = h }) s) (s .i) jobs) ≡ bounded most (responseOf y a i)
+  worst-is jobs c = ap (bounded most) (with-at _ _ _ jobs c ∙ sym stood)
 
-  pub beyond-is : jobCount y (standBy (record { p = a .p; h = h }) s) (s .i) ≡ Beyond → Beyond ≡ bounded most (responseOf y a i)
+  pub beyond-is : jobCount y (standBy (record { p = a .p; h = h }) s) (s .i) ≡ Beyond → tooLate ≡ bounded most (responseOf y a i)
   unfolding bounded within
-  beyond-is c = rw (stood, response-beyond _ _ _ c)
+  beyond-is c = rw (stood, beyond-job _ _ _ (response-beyond _ _ _ c))
 
 -- the verdict on a task, by its R up to the deadline
 module _ (y : Tasks) (a : Assignment) (i : ℕ) {d : ℕ} (ed : d ≡ y .d i) where
-  pub task-passes : (r : ℕ) → bounded d (responseOf y a i) ≡ At r → true ≡ taskPasses y a i
+  pub task-passes : (r : ℕ) → bounded d (responseOf y a i) .time ≡ At r → true ≡ taskPasses y a i
   unfolding bounded taskPasses
-  task-passes r e = rw (← ed) (go (within (responseOf y a i) d) e)
+  task-passes r e = rw (← ed) (go (within (responseOf y a i .time) d) e)
     where
-      go : (v : Bool) → cond v (responseOf y a i) Beyond ≡ At r → true ≡ v
+      go : (v : Bool) → cond v (responseOf y a i) tooLate .time ≡ At r → true ≡ v
       go true h = refl
       go false h = let z : _≡_ {A = ℕ} 0 1 = cc in absurd (omega arith)
 
-  pub task-fails : bounded d (responseOf y a i) ≡ Beyond → false ≡ taskPasses y a i
+  pub task-fails : bounded d (responseOf y a i) .time ≡ Beyond → false ≡ taskPasses y a i
   unfolding bounded taskPasses within
-  task-fails e = rw (← ed) (go (responseOf y a i) e)
+  task-fails e = rw (← ed) (go (within (responseOf y a i .time) d) refl e)
     where
-      kept : (v : Bool) (r : ℕ) → cond v (At r) Beyond ≡ Beyond → false ≡ v
-      kept true r h = let z : _≡_ {A = ℕ} 0 1 = cc in absurd (omega arith)
-      kept false r h = refl
-
-      go : (r : Time) → cond (within r d) r Beyond ≡ Beyond → false ≡ within r d
-      go (At r) h = kept _ r h
-      go Beyond h = refl
+      go : (v : Bool) → within (responseOf y a i .time) d ≡ v → cond v (responseOf y a i) tooLate .time ≡ Beyond → false ≡ v
+      go true w h = rw h at w
+      go false w h = refl

@@ -1,18 +1,22 @@
--- A response time, and one that only matters up to a bound.
+-- A response time with its job, and one that only matters up to a bound.
 use Prim.Native.Nat.{ℕ}
 use mathlib.Core.Bool.{cond}
 use Rattle.paper.specs.Numbers.{Assignment}
-use Rattle.paper.specs.Analysis.{Tasks, standing, response, within}
+use Rattle.paper.specs.Analysis.{Tasks, Standing, standing, worst, firstReaching, withJob, within}
 use Rattle.paper.specs.declared.Response.{Response}
-use Rattle.paper.specs.declared.Time.{Time}
 use Rattle.paper.specs.declared.Time.the-variants.{Beyond}
 
--- a time at or below the bound, else beyond
-unfoldable pub bounded : ℕ → Time → Time
-bounded most r = cond (within r most) r Beyond
+-- the answer where no time is at or below the bound
+abbrev pub tooLate : Response
+tooLate = record { time = Beyond; job = 0 }
 
-abbrev pub responseOf : Tasks → Assignment → ℕ → Time
-responseOf y a i = response y (standing y a i) i
+-- a time at or below the bound, else none
+unfoldable pub bounded : ℕ → Response → Response
+bounded most r = cond (within (r .time) most) r tooLate
 
-abbrev pub answerOf : Tasks → Assignment → ℕ → Response
-answerOf y a i = record { time = responseOf y a i }
+-- the worst of the jobs below `count`, with the first that reaches it
+abbrev pub worstWith : Tasks → Standing → ℕ → ℕ → Response
+worstWith y s i count = record { time = worst y s i count; job = firstReaching y s i count (worst y s i count) }
+
+abbrev pub responseOf : Tasks → Assignment → ℕ → Response
+responseOf y a i = withJob y (standing y a i) i

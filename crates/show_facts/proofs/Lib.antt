@@ -1,3 +1,4 @@
 pub mod Says
 pub mod Firsts
 pub mod Verdicts
+pub mod WorstJobs

@@ -1,6 +1,6 @@
--- What a cell, a note and a half of the verdict are in each case.
+-- What a cell, what is said of a worst job, a note and a half of the verdict are in each case.
 use Prim.Native.Nat.{ℕ, _+_, _-_, _≤_, _<_}
-use mathlib.Core.Path.{_≡_, sym}
+use mathlib.Core.Path.{_≡_, sym, _∙_}
 use mathlib.Core.Bool.{Bool, true, false, not}
 use mathlib.Core.List.{List}
 use native.Mathlib.Omega.{arith}
@@ -14,6 +14,7 @@ use Rattle.paper.specs.Numbers.{mostTasks}
 use Rattle.paper.specs.Analysis.{within}
 use Rattle.paper.specs.Answers.{timesAnswer, tolerancesAnswer, lengthsAnswer, fitAnswer}
 use Rattle.paper.specs.declared.Table.{Table}
+use Rattle.paper.specs.declared.Response.{Response}
 use Rattle.paper.specs.declared.TimesAnswer.{TimesAnswer}
 use Rattle.paper.specs.declared.TicksAnswer.{TicksAnswer}
 use Rattle.paper.specs.declared.FitAnswer.{FitAnswer}
@@ -25,7 +26,10 @@ use Rattle.paper.specs.declared.Time.{Time}
 use Rattle.paper.specs.declared.Time.the-variants.{At, Beyond}
 use Rattle.cells.specs.declared.Cell.{Cell}
 use Rattle.cells.specs.declared.Cell.the-variants as Cell
-use Rattle.show_facts.specs.Sheet.{fitsAt, factsOf, placeCell, slackCell, ticksCell, firstNote, jobs, keepsAt, deadlinesOf, fitOf, verdictOf}
+use Rattle.show_facts.specs.Sheet.{jobOf, responseAt, fitsAt, factsOf, placeCell, slackCell, ticksCell, firstNote, jobs, keepsAt, deadlinesOf, fitOf, verdictOf}
+use Rattle.show_facts.specs.WorstJobs.{worstBy, worstAt}
+use Rattle.show_facts.specs.declared.Worst.{Worst}
+use Rattle.show_facts.specs.declared.Worst.the-variants.{Nothing, Later, Late, Unknown}
 use Rattle.show_facts.specs.declared.Note.the-variants as Note
 use Rattle.show_facts.specs.declared.Facts.{Facts}
 use Rattle.show_facts.specs.declared.Deadlines.{Deadlines}
@@ -48,6 +52,26 @@ slack-over time x d e h = rw (e, lt-leb x d h)
 
 pub no-slack : (time : Time) (d : ℕ) → time ≡ Beyond → Cell.Dash ≡ slackCell time d
 no-slack time d e = rw e
+
+-- what is said of a worst job
+pub worst-late : (time : Time) (x k d : ℕ) → time ≡ At x → d < x → Late k (x - d) ≡ worstBy time k d
+worst-late time x k d e h = rw (e, lt-leb x d h)
+
+pub worst-first : (time : Time) (x k d : ℕ) → time ≡ At x → x ≤ d → k ≡ 0 → Nothing ≡ worstBy time k d
+worst-first time x k d e h z = rw (e, le-leb x d h, eq-eqb k 0 z)
+
+pub worst-later : (time : Time) (x k d : ℕ) → time ≡ At x → x ≤ d → (k ≡ 0 → ⊥) → Later k ≡ worstBy time k d
+worst-later time x k d e h z = rw (e, le-leb x d h, ne-eqb k 0 z)
+
+pub worst-beyond : (time : Time) (k d : ℕ) → time ≡ Beyond → Unknown ≡ worstBy time k d
+worst-beyond time k d e = rw e
+
+pub no-worst : (f : Facts) (k : ℕ) (r : Refusal) → f .times .outcome ≡ Refused r → Nothing ≡ worstAt f k
+no-worst f k r e = rw e
+
+pub a-worst : (f : Facts) (k : ℕ) {response : Response} {d : ℕ} {p : Worst} → f .times .outcome ≡ Done → response ≡ responseAt (f .times) k → d ≡ jobOf f k .deadline
+    → p ≡ worstBy (response .time) (response .job) d → p ≡ worstAt f k
+a-worst f k e er ed ep = ep ∙ rw (e, er, ed)
 
 -- a signed number, which is read back from its bits
 pub ticks-below : (x : ℤ) {y : ℤ} (m : ℕ) → y ≡ x → ltZ y (pos 0) ≡ true → m ≡ natAbs y → Cell.Minus m ≡ ticksCell x

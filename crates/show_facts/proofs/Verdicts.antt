@@ -17,7 +17,7 @@ use Rattle.paper.specs.Analysis.{tasksOf, within, taskPasses, passes}
 use Rattle.paper.specs.Lengths.{lengthOf, regionsFit, allFit}
 use Rattle.paper.specs.Regions.{listOf, wordsInRange, regionsHold, recordRegionsHold, allRegionsHold}
 use Rattle.paper.specs.Refusals.{firstOf, timesAsks, lengthsAsks, fitAsks}
-use Rattle.paper.specs.Answers.{whenDone, noTime, timeOf, fitFor, fitAnswer, lengthsAnswer}
+use Rattle.paper.specs.Answers.{whenDone, noTime, fitFor, fitAnswer, lengthsAnswer}
 use Rattle.paper.specs.declared.Source.{Source}
 use Rattle.paper.specs.declared.Source.the-variants.{Own, Catalogue}
 use Rattle.paper.specs.declared.Record.{Record}
@@ -31,6 +31,7 @@ use Rattle.paper.proofs.Asks.{done-none, none-done}
 use Rattle.paper.proofs.Extremes.{lowest-none, lowest-found, lowest-either}
 use Rattle.laws.proofs.Every.{every-same, lowest-same}
 use Rattle.laws.proofs.Lists.{list-at, per-task-at}
+use Rattle.response.proofs.Answered.{answered}
 use Rattle.show_facts.specs.Sheet.{fitsAt, factsOf, jobs, keepsAt, firstLate, firstUnfit, deadlinesOf, fitOf, verdictOf, inSource, insideAt, firstOutside}
 use Rattle.show_facts.specs.declared.Deadlines.{Deadlines}
 use Rattle.show_facts.specs.declared.Deadlines.the-variants.{Kept, Missed}
@@ -98,9 +99,7 @@ module _ (t : Table) (own catalogue : List ℕ) where
   keeps-passes : firstOf (timesAsks t) ≡ Done → (k : ℕ) → k < t .n
       → keepsAt (factsOf t own catalogue) k ≡ taskPasses (tasksOf (t .records) (t .n)) (assigned (t .records)) k
   unfolding taskPasses
-  keeps-passes e k h =
-      ap (λ o. within (getD (whenDone o (perTask (t .n) (timeOf t) noTime) (replicate mostTasks noTime)) k noTime .time) (rec (t .records) k .deadline)) e
-      ∙ ap (λ r. within (r .time) (rec (t .records) k .deadline)) (per-task-at (t .n) (timeOf t) noTime noTime k h)
+  keeps-passes e k h = ap (λ r. within (r .time) (rec (t .records) k .deadline)) (answered t k noTime e h)
 
   -- where the times are answered, no job is late exactly when the table's own assignment passes
   pub none-late-passes : firstOf (timesAsks t) ≡ Done

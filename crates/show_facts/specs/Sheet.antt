@@ -18,6 +18,7 @@ use Rattle.paper.specs.declared.Table.{Table}
 use Rattle.paper.specs.declared.Refusal.{Refusal}
 use Rattle.paper.specs.declared.Outcome.{Outcome}
 use Rattle.paper.specs.declared.Outcome.the-variants.{Done, Refused}
+use Rattle.paper.specs.declared.Response.{Response}
 use Rattle.paper.specs.declared.Time.{Time}
 use Rattle.paper.specs.declared.Time.the-variants as Time
 use Rattle.paper.specs.declared.TimesAnswer.{TimesAnswer}
@@ -40,8 +41,11 @@ use Rattle.show_facts.specs.declared.Verdict.the-variants.{Unchecked, Ch
 abbrev pub jobOf : Facts → ℕ → Record
 jobOf f k = rec (f .table .records) k
 
+abbrev pub responseAt : TimesAnswer → ℕ → Response
+responseAt a k = getD (a .times) k noTime
+
 abbrev pub timeAt : TimesAnswer → ℕ → Time
-timeAt a k = getD (a .times) k noTime .time
+timeAt a k = responseAt a k .time
 
 abbrev pub ticksAt : TicksAnswer → ℕ → ℤ
 ticksAt a k = getD (a .ticks) k (pos 0)

@@ -1,5 +1,6 @@
-// What the public calls say of a table: the cells of each job, the note under the table, and the verdict. specs/Sheet.antt says
-// what each is by the calls' answers. Which words stand for it is for the crate above.
+// What the public calls say of a table: the cells of each job, the worst job of its active period, the note under the table, and
+// the verdict. specs/Sheet.antt and specs/WorstJobs.antt say what each is by the calls' answers. Which words stand for it is for
+// the crate above.
 ghost use Prim.Native.Nat.{_+_, _<_, _≤_, min};
 ghost use mathlib.Core.Path.{_≡_};
 ghost use mathlib.Core.Bool.{false, not};
@@ -8,7 +9,8 @@ ghost use lib.ListN.{getD};
 ghost use Rattle.paper.specs.Vocabulary.{listTo, lowest};
 ghost use Rattle.paper.specs.Numbers.{mostTasks, rec};
 ghost use Rattle.paper.specs.Analysis.{within};
-ghost use Rattle.show_facts.specs.Sheet.{timeAt, ticksAt, fitsAt, factsOf, placeCell, timeCell, slackCell, ticksCell, fitCell, shown, cellsOf, firstNote, keepsAt, deadlinesOf, fitOf, verdictOf, inSource, firstOutside};
+ghost use Rattle.show_facts.specs.Sheet.{responseAt, timeAt, ticksAt, fitsAt, factsOf, placeCell, timeCell, slackCell, ticksCell, fitCell, shown, cellsOf, firstNote, keepsAt, deadlinesOf, fitOf, verdictOf, inSource, firstOutside};
+ghost use Rattle.show_facts.specs.WorstJobs.{worstBy, worstAt};
 ghost use Rattle.show_facts.specs.Asked.{holdsAt};
 use cells::Cell;
 use paper::FitAnswer;
@@ -16,6 +18,7 @@ use paper::MOST_TASKS;
 use paper::Outcome;
 use paper::Record;
 use paper::Refusal;
+use paper::Response;
 use paper::Source;
 use paper::Table;
 use paper::TicksAnswer;
@@ -30,6 +33,18 @@ pub struct Facts {
     // Whether every region of the job is at most its length, where lengths are given.
     pub fits: [bool; MOST_TASKS],
     pub check: FitAnswer,
+}
+
+// What is said of the worst job of a task's active period. The jobs in it count from 0.
+pub enum Worst {
+    // Job 0 is the worst, and in time; or the response times were refused.
+    Nothing,
+    // Job k, a later one, is the worst, and in time.
+    Later(u64),
+    // Job k is the worst, and misses the deadline by so many ticks. No job misses it by more, and none before it by as much.
+    Late(u64, u64),
+    // The response time is beyond: the task doesn't pass, and no job is named.
+    Unknown,
 }
 
 // Why there are dashes in the table: the first call that turned it away.
@@ -147,12 +162,19 @@ fn fit_cell(fits: bool) -> Cell
     if fits { Cell::Yes } else { Cell::No }
 }
 
+fn response_at(answer: TimesAnswer, k: usize) -> Response
+    requires { ⌜ k < mostTasks ⌝ }
+    ensures { λ r. ⌜ r ≡ responseAt answer k ⌝ }
+{
+    let times = answer.times;
+    times[k]
+}
+
 fn time_at(answer: TimesAnswer, k: usize) -> Time
     requires { ⌜ k < mostTasks ⌝ }
     ensures { λ r. ⌜ r ≡ timeAt answer k ⌝ }
 {
-    let times = answer.times;
-    let response = times[k];
+    let response = response_at(answer, k);
     response.time
 }
 
@@ -241,6 +263,41 @@ pub fn cell(f: Facts, k: usize, column: usize) -> Cell
             fits_cell(f.lengths, fits, k)
         }
         _ => Cell::Dash,
+    }
+}
+
+fn worst_by(response: Response, deadline: u64) -> Worst
+    ensures { λ r. ⌜ r ≡ worstBy (response .time) (response .job) deadline ⌝ }
+{
+    let job = response.job;
+    let time = response.time;
+    match time {
+        Time::Beyond => Worst::Unknown,
+        Time::At(x) => {
+            if deadline < x {
+                let ticks = x - deadline;
+                return Worst::Late(job, ticks);
+            }
+            if job == 0 {
+                return Worst::Nothing;
+            }
+            Worst::Later(job)
+        }
+    }
+}
+
+pub fn worst_at(f: Facts, k: usize) -> Worst
+    requires { ⌜ k < mostTasks ⌝ }
+    ensures { λ r. ⌜ r ≡ worstAt f k ⌝ }
+{
+    let times = f.times;
+    let outcome = times.outcome;
+    match outcome {
+        Outcome::Refused(_) => Worst::Nothing,
+        Outcome::Done => {
+            let r = record_of(f.table, k);
+            worst_by(response_at(times, k), r.deadline as u64)
+        }
     }
 }
 

@@ -1,4 +1,5 @@
-// The table of jobs, what could not be told, and the verdict, in words. What they say is what `show_facts` promises.
+// The table of jobs, the worst jobs of their active periods, what could not be told, and the verdict, in words. What they say is
+// what `show_facts` promises.
 mod names;
 
 ghost use Prim.Native.Nat.{_≤_, _<_};
@@ -13,6 +14,7 @@ use show_facts::Facts;
 use show_facts::Fit;
 use show_facts::Note;
 use show_facts::Verdict;
+use show_facts::Worst;
 
 // Behind the columns of numbers stands the width of the names.
 const NAMES: usize = COLUMNS;
@@ -226,6 +228,72 @@ fn put_table<'a, 'b>(
     end
 }
 
+// How a line that names the worst job of an active period begins.
+fn put_worst_job(buf: &mut [u8], at: usize, job: usize, worst: u64) -> usize
+    requires { ⌜ at ≤ length (now buf) ⌝ }
+    ensures { λ r. ⌜ r ≤ length (now (buf .entry)) ⌝ }
+{
+    let named = say::count(buf, at, b"job", job as u64);
+    let said = say::count(buf, named, b": worst is job", worst);
+    say::word(buf, said, b" of its active period, counted from 0")
+}
+
+fn put_late(buf: &mut [u8], at: usize, job: usize, worst: u64, ticks: u64) -> usize
+    requires { ⌜ at ≤ length (now buf) ⌝ }
+    ensures { λ r. ⌜ r ≤ length (now (buf .entry)) ⌝ }
+{
+    let named = put_worst_job(buf, at, job, worst);
+    let said = say::count(buf, named, b"; it misses the deadline by", ticks);
+    say::newline(buf, said)
+}
+
+fn put_later(buf: &mut [u8], at: usize, job: usize, worst: u64) -> usize
+    requires { ⌜ at ≤ length (now buf) ⌝ }
+    ensures { λ r. ⌜ r ≤ length (now (buf .entry)) ⌝ }
+{
+    let said = put_worst_job(buf, at, job, worst);
+    say::newline(buf, said)
+}
+
+fn put_unknown(buf: &mut [u8], at: usize, job: usize) -> usize
+    requires { ⌜ at ≤ length (now buf) ⌝ }
+    ensures { λ r. ⌜ r ≤ length (now (buf .entry)) ⌝ }
+{
+    let named = say::count(buf, at, b"job", job as u64);
+    say::word(
+        buf,
+        named,
+        b": beyond; no job of its active period is named\n",
+    )
+}
+
+// A line on a job's active period, where there is something to say.
+fn put_worst(buf: &mut [u8], at: usize, job: usize, said: Worst) -> usize
+    requires { ⌜ at ≤ length (now buf) ⌝ }
+    ensures { λ r. ⌜ r ≤ length (now (buf .entry)) ⌝ }
+{
+    match said {
+        Worst::Nothing => at,
+        Worst::Later(worst) => put_later(buf, at, job, worst),
+        Worst::Late(worst, ticks) => put_late(buf, at, job, worst, ticks),
+        Worst::Unknown => put_unknown(buf, at, job),
+    }
+}
+
+fn put_worsts(buf: &mut [u8], at: usize, f: Facts, n: usize) -> usize
+    requires { ⌜ at ≤ length (now buf) ⌝ }
+    requires { ⌜ n ≤ mostTasks ⌝ }
+    ensures { λ r. ⌜ r ≤ length (now (buf .entry)) ⌝ }
+{
+    let mut end = at;
+    let mut k: usize = 0;
+    while k < n {
+        end = put_worst(buf, end, k + 1, show_facts::worst_at(f, k));
+        k += 1;
+    }
+    end
+}
+
 fn put_why(buf: &mut [u8], at: usize, what: &[u8], r: Refusal) -> usize
     requires { ⌜ at ≤ length (now buf) ⌝ }
     ensures { λ x. ⌜ x ≤ length (now (buf .entry)) ⌝ }
@@ -297,12 +365,14 @@ fn put_verdict(buf: &mut [u8], at: usize, verdict: Verdict) -> usize
 }
 
 // What stands under the table.
-fn put_end(buf: &mut [u8], at: usize, f: Facts) -> usize
+fn put_end(buf: &mut [u8], at: usize, f: Facts, n: usize) -> usize
     requires { ⌜ at ≤ length (now buf) ⌝ }
+    requires { ⌜ n ≤ mostTasks ⌝ }
     ensures { λ r. ⌜ r ≤ length (now (buf .entry)) ⌝ }
 {
     let parted = say::newline(buf, at);
-    let noted = put_note(buf, parted, show_facts::note_of(f));
+    let told = put_worsts(buf, parted, f, n);
+    let noted = put_note(buf, told, show_facts::note_of(f));
     put_verdict(buf, noted, show_facts::verdict_of(f))
 }
 
@@ -323,5 +393,5 @@ pub fn put_sheet<'a, 'b>(
     let widths = widths_of(f, n, cabinet, house);
     let headed = put_headings(buf, at, f, widths);
     let listed = put_table(buf, headed, f, n, widths, own, catalogue, cabinet, house);
-    put_end(buf, listed, f)
+    put_end(buf, listed, f, n)
 }

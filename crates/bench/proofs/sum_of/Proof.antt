@@ -1,4 +1,4 @@
--- `bench::sum_of` sums at most a million for each task.
+-- `bench::sum_of` sums at most two million for each task.
 use Prim.Native.Nat.{_≤_, _-_, _*_}
 use Rattle.paper.specs.Numbers.{mostTasks, horizon}
 use borrow.Author.Needs.{needs}
@@ -6,7 +6,7 @@ use Rattle.bench.proofs.sum_of.Statement.{statement}
 use Rattle.bench.proofs.sum_of.Tie as tie
 
 abbrev Inv-loop : tie.InvT-loop
-Inv-loop times sum₀ k₀ sum k = (k ≤ mostTasks) × (sum ≤ horizon * k)
+Inv-loop times sum₀ k₀ sum k = (k ≤ mostTasks) × (sum ≤ 2 * horizon * k)
 
 abbrev μ-loop : tie.MeasureT-loop
 μ-loop times sum₀ k₀ sum k = mostTasks - k
@@ -14,14 +14,14 @@ abbrev μ-loop : tie.MeasureT-loop
 loop-holds : tie.Need-loop-holds Inv-loop μ-loop
 loop-holds c = search needs
 
-mul-ticks : tie.Need-mul-ticks Inv-loop μ-loop
-mul-ticks c = search needs
+mul-both : tie.Need-mul-both Inv-loop μ-loop
+mul-both c = search needs
 
-array-copy-out-ticks : tie.Need-array-copy-out-ticks Inv-loop μ-loop
-array-copy-out-ticks c = search needs
+array-copy-out-both : tie.Need-array-copy-out-both Inv-loop μ-loop
+array-copy-out-both c = search needs
 
-ticks-requires : tie.Need-ticks-requires Inv-loop μ-loop
-ticks-requires c κs = search needs
+both-requires : tie.Need-both-requires Inv-loop μ-loop
+both-requires c κs = search needs
 
 add-sum : tie.Need-add-sum Inv-loop μ-loop
 add-sum c = search needs
@@ -45,9 +45,9 @@ sum-of-spec =
     Inv-loop
     μ-loop
     loop-holds
-    mul-ticks
-    array-copy-out-ticks
-    ticks-requires
+    mul-both
+    array-copy-out-both
+    both-requires
     add-sum
     add-k
     loop-less

@@ -1,6 +1,6 @@
 -- The invariant: the responses of the tasks passed stand in front, nothing behind them.
 use Prim.Native.Nat.{_-_, _≤_}
-use mathlib.Core.Path.{_≡_, ap, _∙_}
+use mathlib.Core.Path.{_≡_, _∙_}
 use native.Mathlib.Omega.{arith}
 use borrow.Author.Needs.{needs}
 use Rattle.paper.specs.Numbers.{perTask}
@@ -8,13 +8,13 @@ use Rattle.paper.specs.Answers.{noTime}
 use Rattle.laws.proofs.Every.{at-end}
 use Rattle.laws.proofs.Lists.{per-task-none, per-task-turn}
 use Rattle.columns.specs.Columns.{tasksBy, assignedBy}
-use Rattle.response.specs.Bounds.{answerOf}
+use Rattle.response.specs.Bounds.{responseOf}
 use Rattle.response.proofs.Bounds.{horizon-bounds}
 use Rattle.response.proofs.all_responses.Statement.{statement}
 use Rattle.response.proofs.all_responses.Tie as tie
 
 abbrev Inv-loop : tie.InvT-loop
-Inv-loop n y p h times₀ i₀ times i = (i ≤ n) × (times ≡ perTask i (answerOf (tasksBy n y) (assignedBy p h)) noTime)
+Inv-loop n y p h times₀ i₀ times i = (i ≤ n) × (times ≡ perTask i (responseOf (tasksBy n y) (assignedBy p h)) noTime)
 
 abbrev μ-loop : tie.MeasureT-loop
 μ-loop n y p h times₀ i₀ times i = n - i
@@ -43,7 +43,7 @@ loop-less c = search needs
 loop-again : tie.Need-loop-again Inv-loop μ-loop
 loop-again c =
     let l = c .before .before .loop in
-    (search needs, per-task-turn (l .i) _ _ (omega arith) (l .inv .1) (ap (λ r. record { time = r }) (c .response .ensures ∙ horizon-bounds _ _ _)))
+    (search needs, per-task-turn (l .i) _ _ (omega arith) (l .inv .1) (c .response .ensures ∙ horizon-bounds _ _ _))
 
 returns : tie.Need-returns Inv-loop μ-loop
 returns c = at-end (λ k f. perTask k f noTime) _ (c .before .before .before .args .n) (c .before .loop .inv .1) (omega arith)

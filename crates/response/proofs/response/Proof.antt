@@ -23,10 +23,14 @@ enum-known-count c = search needs
 enum-told : tie.Need-enum-told
 enum-told c = search needs
 
+beyond-requires : tie.Need-beyond-requires
+beyond-requires c κs = search needs
+
 returns : tie.Need-returns
 returns c =
-    let a = c .before .before .before .before .args in
-    beyond-is (tasksBy (a .n) (a .y .now)) (assignedBy (a .p .now) (a .h .now)) (a .i) (rankedBy (a .p .now) .h) _ (c .before .before .before .stand-of .ensures) (a .most) (sym (c .before .before .job-count .ensures) ∙ c .enum-told .given .1)
+    let a = c .before .before .before .before .before .args in
+    c .beyond .ensures
+    ∙ beyond-is (tasksBy (a .n) (a .y .now)) (assignedBy (a .p .now) (a .h .now)) (a .i) (rankedBy (a .p .now) .h) _ (c .before .before .before .before .stand-of .ensures) (a .most) (sym (c .before .before .before .job-count .ensures) ∙ c .before .enum-told .given .1)
 
 worst-requires : tie.Need-worst-requires
 worst-requires c κs =
@@ -51,6 +55,7 @@ response-spec =
     job-count-requires
     enum-known-count
     enum-told
+    beyond-requires
     returns
     worst-requires
     returns-2)

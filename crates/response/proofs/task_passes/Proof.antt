@@ -1,5 +1,6 @@
-use mathlib.Core.Path.{sym, _∙_}
+use mathlib.Core.Path.{ap, sym, _∙_}
 use borrow.Author.Needs.{needs}
+use Rattle.paper.specs.declared.Response.{Response}
 use Rattle.columns.specs.Columns.{tasksBy, assignedBy}
 use Rattle.response.proofs.Bounds.{task-passes, task-fails}
 use Rattle.response.proofs.task_passes.Statement.{statement}
@@ -20,12 +21,12 @@ enum-told-2 c = search needs
 returns : tie.Need-returns
 returns c =
     let a = c .before .before .before .before .args in
-    task-passes (tasksBy (a .n) (a .y .now)) (assignedBy (a .p .now) (a .h .now)) (a .i) (c .before .before .before .deadline .ensures) _ (sym (c .before .before .response .ensures) ∙ c .enum-told .given .1)
+    task-passes (tasksBy (a .n) (a .y .now)) (assignedBy (a .p .now) (a .h .now)) (a .i) (c .before .before .before .deadline .ensures) _ (ap (λ (r : Response). r .time) (sym (c .before .before .response .ensures)) ∙ c .enum-told .given .1)
 
 returns-2 : tie.Need-returns-2
 returns-2 c =
     let a = c .before .before .before .before .args in
-    task-fails (tasksBy (a .n) (a .y .now)) (assignedBy (a .p .now) (a .h .now)) (a .i) (c .before .before .before .deadline .ensures) (sym (c .before .before .response .ensures) ∙ c .enum-told2 .given .1)
+    task-fails (tasksBy (a .n) (a .y .now)) (assignedBy (a .p .now) (a .h .now)) (a .i) (c .before .before .before .deadline .ensures) (ap (λ (r : Response). r .time) (sym (c .before .before .response .ensures)) ∙ c .enum-told2 .given .1)
 
 pub task-passes-spec : {M : Type 1} → statement M
 task-passes-spec =
