@@ -865,7 +865,7 @@ fn far_behind() -> (Table, Vec<u32>) {
 }
 
 /// Document 02, item 4: which job is the worst, where several reach R, and which of them misses the
-/// deadline. The tables are those of tests/worst.rs.
+/// deadline. The tables are those of tests/worst.rs, and three of tests/bench.rs.
 fn worst_jobs(stream: &mut Stream) {
     let three = |tasks: [(u32, u32, u32); 3], thresholds: [u32; 3]| {
         let places = [1, 2, 3].map(|p: u32| (p, thresholds[p as usize - 1]));
@@ -889,12 +889,12 @@ fn worst_jobs(stream: &mut Stream) {
         ),
         ("the first job and a later one reach R", first_and_later()),
         (
-            "the first job and two later ones do",
-            three([(1, 15, 15), (2, 5, 5), (2, 4, 5)], [1, 1, 3]),
+            "the same, and both above cut it",
+            three([(1, 3, 3), (1, 8, 8), (1, 2, 3)], [1, 1, 3]),
         ),
         (
-            "the same by its own threshold",
-            three([(1, 3, 3), (1, 8, 8), (1, 2, 3)], [1, 1, 3]),
+            "the first job and two later ones do",
+            three([(1, 15, 15), (2, 5, 5), (2, 4, 5)], [1, 1, 3]),
         ),
         ("two later jobs reach R", two_later()),
         (

@@ -50,7 +50,8 @@ fn a_later_job() {
     assert_eq!(answered(&cut()), [Some((3, 0)), Some((6, 1))]);
 }
 
-/// Job 1 takes 6, job 0 takes 5, job 2 takes 4: R and k are the same whichever of them miss the deadline.
+/// Job 1 takes 6, job 0 takes 5, job 2 takes 4: R and k are the same whichever of them miss the
+/// deadline.
 #[test]
 fn a_later_job_and_the_deadline() {
     // In time at the last tick.

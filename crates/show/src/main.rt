@@ -5,7 +5,8 @@
 // another catalogue would look whole.
 //
 // The table's headings: due is the deadline, pr the priority, th the threshold, resp the response time, slack what is left
-// from it to the deadline, tol the tolerance, and fit whether every region of the job is at most its length.
+// from it to the deadline, tol the tolerance, and fit whether every region of the job is at most its length. Lines under it name
+// the worst job of an active period, where that isn't job 0 or the deadline is missed.
 mod arguments;
 mod unnamed;
 
