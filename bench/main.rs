@@ -67,8 +67,8 @@ mod core {
     }
 }
 
-/// Costs, periods, deadlines.
-const TASK_COLUMNS: usize = 3;
+/// Costs, periods, deadlines, jitters.
+const TASK_COLUMNS: usize = 4;
 
 /// The numbers that the core's pass test is lent: of the tasks, column after column, and of the assignment.
 struct Lent {
@@ -80,7 +80,7 @@ struct Lent {
 
 impl Lent {
     fn of(tasks: &analysis::Tasks) -> Self {
-        let columns = [tasks.cost, tasks.period, tasks.deadline].concat();
+        let columns = [tasks.cost, tasks.period, tasks.deadline, tasks.jitter].concat();
         Lent {
             n: tasks.n,
             y: columns.try_into().expect("all columns"),
@@ -100,9 +100,10 @@ const LONGEST_FILE: usize = 440;
 fn main() {
     println!("| work | core | second | ratio |\n|---|---|---|---|");
     reading_and_writing();
-    analysis_of(6);
-    analysis_of(8);
-    analysis_of(MOST_TASKS);
+    analysis_of(6, 0);
+    analysis_of(8, 0);
+    analysis_of(8, 10);
+    analysis_of(MOST_TASKS, 0);
     tolerance_of_a_long_deadline();
 }
 
@@ -170,10 +171,18 @@ fn reading_and_writing() {
     say("write, 15 tasks and 100 words", write_core, write_second);
 }
 
-/// Random tables of n tasks, loads from 60 to 105 percent, assigned.
-fn analysis_of(n: usize) {
+/// Random tables of n tasks, loads from 60 to 105 percent, assigned; jitters up to so many percent of the periods.
+fn analysis_of(n: usize, jitter: u32) {
     let random = &mut Random::new(n as u64);
-    let tables: Vec<Table> = (0..200).map(|_| random_table(random, n)).collect();
+    let mut tables: Vec<Table> = (0..200).map(|_| random_table(random, n)).collect();
+    for record in tables.iter_mut().flat_map(|table| &mut table.records[..n]) {
+        record.jitter = random.from(0, record.period * jitter / 100);
+    }
+    let late = if jitter == 0 {
+        String::new()
+    } else {
+        format!(", jitters to {jitter} percent")
+    };
     let bytes: Vec<Vec<u8>> = tables.iter().map(table_bytes).collect();
     let times_core = measure(20, || {
         bytes
@@ -195,7 +204,7 @@ fn analysis_of(n: usize) {
     });
     assert_eq!(times_core.1, times_second.1);
     say(
-        &format!("response times, 200 random tables of {n}"),
+        &format!("response times, 200 random tables of {n}{late}"),
         times_core,
         times_second,
     );
@@ -215,7 +224,7 @@ fn analysis_of(n: usize) {
     });
     assert_eq!(passes_core.1, passes_second.1);
     say(
-        &format!("pass test, 200 random tables of {n}"),
+        &format!("pass test, 200 random tables of {n}{late}"),
         passes_core,
         passes_second,
     );

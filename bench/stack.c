@@ -24,7 +24,7 @@ size bench_name(word name, const byte *list, size list_len);
 
 /* The plate of bench_write. */
 enum { CABINET = 70001, LINE = 12 };
-enum { TASKS = 15, REGIONS = 6, WORDS = 100, FIELDS = 9, TABLE = 1 + TASKS * FIELDS * 4, FILE_ROOM = 1024, PAINT = 0xA5 };
+enum { TASKS = 15, REGIONS = 6, WORDS = 100, FIELDS = 10, TABLE = 1 + TASKS * FIELDS * 4, FILE_ROOM = 1024, PAINT = 0xA5 };
 
 static byte stack[1 << 20] __attribute__((aligned(64)));
 static byte table[TABLE], file[FILE_ROOM], row[2 * TASKS], next[2 * TASKS], names[1024];
@@ -39,7 +39,7 @@ static void put_word(byte *at, word x) {
 static void make_inputs(void) {
     table[0] = TASKS;
     for (word k = 0; k < TASKS; k++) {
-        word fields[FIELDS] = {REGIONS, 1000 + k, 1000, k + 1, 1, 0, REGIONS * k, REGIONS, k};
+        word fields[FIELDS] = {REGIONS, 1000 + k, 1000, k + 1, 1, 0, REGIONS * k, REGIONS, k, 0};
         for (int f = 0; f < FIELDS; f++) put_word(table + 1 + 4 * (k * FIELDS + f), fields[f]);
     }
     for (int k = 0; k < WORDS; k++) own[k] = 1;

@@ -1,6 +1,6 @@
 //! Response times (document 01, "The analysis", with the blocking that document 02, item 5,
-//! settles, and the worst job of item 4). p is priority, h threshold, and a smaller number is the
-//! higher priority.
+//! settles, the worst job of item 4 and the jitter of item 8). p is priority, h threshold, J jitter,
+//! and a smaller number is the higher priority.
 
 use crate::checks::*;
 use crate::table::*;
@@ -15,6 +15,7 @@ pub struct Tasks {
     pub cost: [u64; MOST_TASKS],
     pub period: [u64; MOST_TASKS],
     pub deadline: [u64; MOST_TASKS],
+    pub jitter: [u64; MOST_TASKS],
     pub priority: [u32; MOST_TASKS],
     pub threshold: [u32; MOST_TASKS],
 }
@@ -26,6 +27,7 @@ impl Tasks {
             cost: table.records.map(|record| record.cost as u64),
             period: table.records.map(|record| record.period as u64),
             deadline: table.records.map(|record| record.deadline as u64),
+            jitter: table.records.map(|record| record.jitter as u64),
             priority: table.records.map(|record| record.priority),
             threshold: table.records.map(|record| record.threshold),
         }
@@ -49,8 +51,9 @@ pub fn response_times(table: &Table) -> Result<Vec<Option<Response>>, Refusal> {
     Ok((0..tasks.n).map(|i| response(&tasks, i)).collect())
 }
 
-/// R(i), the largest F - k·T(i) over the jobs of the active period, and the first k that has it;
-/// `None` is "beyond". All jobs are gone through, as any of them may be beyond.
+/// R(i), the largest F + J(i) - k·T(i) over the jobs of the active period, and the first k that has
+/// it; `None` is "beyond". All jobs are gone through, as any of them may be beyond. Only L, S and F
+/// are held to the horizon: R may lie above it by the jitter.
 pub fn response(tasks: &Tasks, i: usize) -> Option<Response> {
     let b = blocking(tasks, i);
     let mut worst: Option<Response> = None;
@@ -58,7 +61,7 @@ pub fn response(tasks: &Tasks, i: usize) -> Option<Response> {
     for k in 0..jobs(tasks, i, b)? {
         s = start(tasks, i, b, k, s)?;
         let f = finish(tasks, i, s)?;
-        let time = f as i64 - (k * tasks.period[i]) as i64;
+        let time = (f + tasks.jitter[i]) as i64 - (k * tasks.period[i]) as i64;
         // A later job that only reaches the same value isn't the first.
         if worst.is_none_or(|worst| worst.time < time) {
             worst = Some(Response { time, job: k });
@@ -79,7 +82,7 @@ fn task_passes(tasks: &Tasks, i: usize) -> Option<()> {
     for k in 0..jobs(tasks, i, b)? {
         s = start(tasks, i, b, k, s)?;
         let f = finish(tasks, i, s)?;
-        if f > k * tasks.period[i] + tasks.deadline[i] {
+        if f + tasks.jitter[i] > k * tasks.period[i] + tasks.deadline[i] {
             return None;
         }
     }
@@ -104,19 +107,25 @@ pub fn blocking(tasks: &Tasks, i: usize) -> u64 {
     largest_blocker(tasks, i).saturating_sub(1)
 }
 
-/// ceil(L/T(i)): jobs k run from 0 to one less.
+/// ceil((L + J(i))/T(i)): jobs k run from 0 to one less.
 pub fn jobs(tasks: &Tasks, i: usize, b: u64) -> Option<u64> {
-    Some(active_period(tasks, i, b)?.div_ceil(tasks.period[i]))
+    Some(arrived(tasks, i, active_period(tasks, i, b)?))
 }
 
-/// L(i), the smallest positive L with L = b + sum over p(j) ≤ p(i) of ceil(L/T(j))·C(j). The
-/// climb begins at 1, so that the trivial answer 0 is passed over.
+/// How many jobs of a task come before t, at the most: ceil((t + J(j))/T(j)). The first of them may
+/// be late by the whole jitter and those behind it in time, so that they stand that much closer.
+pub fn arrived(tasks: &Tasks, j: usize, t: u64) -> u64 {
+    (t + tasks.jitter[j]).div_ceil(tasks.period[j])
+}
+
+/// L(i), the smallest positive L with L = b + sum over p(j) ≤ p(i) of ceil((L + J(j))/T(j))·C(j).
+/// The climb begins at 1, so that the trivial answer 0 is passed over.
 pub fn active_period(tasks: &Tasks, i: usize, b: u64) -> Option<u64> {
     climb(1, |l| {
         let mut sum = b;
         for j in 0..tasks.n {
             if tasks.priority[j] <= tasks.priority[i] {
-                sum += l.div_ceil(tasks.period[j]) * tasks.cost[j];
+                sum += arrived(tasks, j, l) * tasks.cost[j];
             }
         }
         sum
@@ -131,34 +140,35 @@ pub fn start(tasks: &Tasks, i: usize, b: u64, k: u64, before: u64) -> Option<u64
         let mut sum = b + k * tasks.cost[i];
         for j in 0..tasks.n {
             if tasks.priority[j] < tasks.priority[i] {
-                sum += started(s, tasks.period[j]) * tasks.cost[j];
+                sum += started(tasks, j, s) * tasks.cost[j];
             }
         }
         sum
     })
 }
 
-/// How many jobs of a higher task have come by the start S. One that arrives at the very tick of
-/// the start goes first and counts too, whether something blocks or not (document 02, item 5).
-fn started(s: u64, period: u64) -> u64 {
-    1 + s / period
+/// How many jobs of a higher task have come by the start S, 1 + floor((S + J(j))/T(j)). One that
+/// arrives at the very tick of the start goes first and counts too, whether something blocks or not
+/// (document 02, item 5).
+fn started(tasks: &Tasks, j: usize, s: u64) -> u64 {
+    1 + (s + tasks.jitter[j]) / tasks.period[j]
 }
 
 /// F of the job that starts at S, the smallest F > S with F = S + C(i) + sum over p(j) < h(i)
-/// of (ceil(F/T(j)) - started(j))·C(j). For F > S no difference is below zero, so no solution
-/// lies below S + C(i) and the climb begins there.
+/// of (ceil((F + J(j))/T(j)) - started(j))·C(j). For F > S no difference is below zero, so no
+/// solution lies below S + C(i) and the climb begins there.
 pub fn finish(tasks: &Tasks, i: usize, s: u64) -> Option<u64> {
     let mut begun = [0; MOST_TASKS];
     for j in 0..tasks.n {
         if tasks.priority[j] < tasks.threshold[i] {
-            begun[j] = started(s, tasks.period[j]);
+            begun[j] = started(tasks, j, s);
         }
     }
     climb(s + tasks.cost[i], |f| {
         let mut sum = s + tasks.cost[i];
         for j in 0..tasks.n {
             if tasks.priority[j] < tasks.threshold[i] {
-                sum += (f.div_ceil(tasks.period[j]) - begun[j]) * tasks.cost[j];
+                sum += (arrived(tasks, j, f) - begun[j]) * tasks.cost[j];
             }
         }
         sum

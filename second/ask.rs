@@ -133,6 +133,7 @@ impl<'a> Body<'a> {
             first: self.four()?,
             count: self.four()?,
             name: self.four()?,
+            jitter: self.four()?,
         })
     }
 
@@ -266,6 +267,7 @@ fn table_text(table: &Table) -> String {
             task.threshold,
         ]);
         text += &spaced(&[task.source.bit(), task.first, task.count, task.name]);
+        text += &spaced(&[task.jitter]);
     }
     text
 }

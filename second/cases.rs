@@ -17,12 +17,12 @@ struct Case {
 }
 
 /// The calls by kind, with the numbers that each of them asks, in the order in which it asks them
-/// (document 01, "Numbers a turned-away call returns", and document 02, item 1).
+/// (document 01, "Numbers a turned-away call returns", and document 02, items 1 and 8).
 pub const CALLS: [(&str, &[u8]); 11] = [
     ("read", &[1, 2, 18, 3, 4, 5, 6, 7, 8, 9, 10, 11, 12]),
-    ("write", &[5, 18, 9, 10, 11, 12]),
+    ("write", &[5, 18, 9, 10, 11, 19, 12]),
     ("response times", &[5, 9, 10, 14]),
-    ("tolerances", &[5, 9, 10, 14, 15]),
+    ("tolerances", &[5, 9, 10, 14, 15, 16]),
     ("lengths", &[5, 9, 10, 14, 15, 16]),
     ("region check", &[5, 9, 10, 11, 14, 15, 16]),
     ("first row", &[5, 9, 12]),
@@ -133,6 +133,17 @@ fn assigned(tasks: &[(u32, u32, u32)], places: &[(u32, u32)]) -> (Table, Vec<u32
     (table, own)
 }
 
+/// (cost, period, deadline, jitter) each, in the order of the priorities, with these thresholds.
+fn late(tasks: &[(u32, u32, u32, u32)], thresholds: &[u32]) -> (Table, Vec<u32>) {
+    let timed: Vec<_> = tasks.iter().map(|(c, t, d, _)| (*c, *t, *d)).collect();
+    let places: Vec<(u32, u32)> = (1..).zip(thresholds.iter().copied()).collect();
+    let (mut table, own) = assigned(&timed, &places);
+    for (record, (_, _, _, jitter)) in table.records.iter_mut().zip(tasks) {
+        record.jitter = *jitter;
+    }
+    (table, own)
+}
+
 /// The two jobs of the bench figures in an assignment that passes, B in regions of 3 and 1.
 fn two_jobs() -> (Table, Vec<u32>) {
     let (mut table, own) = three_and_one(A);
@@ -170,6 +181,15 @@ fn fifteen_light_jobs() -> Table {
     unassigned(&tasks).0
 }
 
+/// The same with jitters up to 750, and still no task comes a second time before all have run.
+fn fifteen_light_jobs_late() -> Table {
+    let mut table = fifteen_light_jobs();
+    for (k, record) in (1..).zip(&mut table.records) {
+        record.jitter = 50 * k;
+    }
+    table
+}
+
 /// The fifteen jobs with this n.
 fn fifteen_jobs_said_to_be(n: u8) -> Table {
     Table {
@@ -188,6 +208,11 @@ fn changed(change: impl Fn(&mut Table)) -> Table {
 /// The two jobs after a change of one record.
 fn record_changed(k: usize, change: impl Fn(&mut Record)) -> Table {
     changed(|table| change(&mut table.records[k]))
+}
+
+/// The two jobs with these jitters.
+fn two_jobs_late(of_a: u32, of_b: u32) -> Table {
+    changed(|table| (table.records[0].jitter, table.records[1].jitter) = (of_a, of_b))
 }
 
 /// The table with a record's regions in the catalogue, from this word on.
@@ -604,6 +629,52 @@ const BAD_REGIONS: [Change; 7] = [
     }),
 ];
 
+/// Jitters at the edges of their range, whatever the call is: up to T - 1 they are taken.
+const JITTERS: [Change; 12] = [
+    ("jitter 1", 0, |record| record.jitter = 1),
+    ("the second's jitter 1", 1, |record| record.jitter = 1),
+    ("jitter T - 1", 0, |record| record.jitter = 4),
+    ("the second's jitter T - 1", 1, |record| record.jitter = 9),
+    ("jitter T", 0, |record| record.jitter = 5),
+    ("the second's jitter T", 1, |record| record.jitter = 10),
+    ("jitter T + 1", 0, |record| record.jitter = 6),
+    ("the second's jitter T + 1", 1, |record| record.jitter = 11),
+    ("jitter 2^31", 0, |record| record.jitter = 1 << 31),
+    ("jitter 2^32 - 1", 0, |record| record.jitter = u32::MAX),
+    ("the second's jitter 2^32 - 1", 1, |record| {
+        record.jitter = u32::MAX
+    }),
+    ("a jitter past n", 2, |record| record.jitter = u32::MAX),
+];
+
+/// The deadline of a jitter, A (2,9,4), from a tick below it on: the last that leaves a t for the
+/// tolerance, the first that leaves none, and more.
+const AT_THE_DEADLINE: [(&str, u32); 4] = [
+    ("jitter D - 1", 3),
+    ("jitter D", 4),
+    ("jitter D + 1", 5),
+    ("jitter above D, T - 1", 8),
+];
+
+/// All of these, and a period of 1, which leaves the jitter 0 alone. Costs and regions are those of
+/// the two jobs.
+fn jitter_tables() -> Vec<(&'static str, Table)> {
+    let mut list = tables(&JITTERS);
+    for (what, jitter) in AT_THE_DEADLINE {
+        let table = record_changed(0, |record| {
+            (record.period, record.deadline, record.jitter) = (9, 4, jitter)
+        });
+        list.push((what, table));
+    }
+    for (what, jitter) in [("jitter 0 of period 1", 0), ("jitter 1 of period 1", 1)] {
+        let table = record_changed(0, |record| {
+            (record.period, record.deadline, record.jitter) = (1, 1, jitter)
+        });
+        list.push((what, table));
+    }
+    list
+}
+
 /// The two jobs after each of these changes.
 fn tables(changes: &[Change]) -> Vec<(&'static str, Table)> {
     let table = |change: &Change| (change.0, record_changed(change.1, change.2));
@@ -701,6 +772,7 @@ fn writing(stream: &mut Stream) {
         stream.add(2, what, write_body(plate, 42, &table, &own, &[]));
     }
     writing_blank(stream);
+    writing_late(stream);
 }
 
 /// Zeros on the plate: by themselves, and beside something else that is asked before 18 or after
@@ -728,6 +800,58 @@ fn writing_blank(stream: &mut Stream) {
     let wide = write_body(plate(1 << 24, 0), 42, &table, &own, &[]);
     stream.add(2, "the plate's line is 0, its cabinet 25 bits", wide);
 }
+
+/// Document 02, item 8: no jitter can be written, and 19 says so after 11 and before 12.
+fn writing_late(stream: &mut Stream) {
+    let (_, own) = two_jobs();
+    for (what, table) in jitter_tables() {
+        stream.write(what, 42, &table, &own);
+    }
+    let one = two_jobs_late(0, 1);
+    let with = |change: fn(&mut Table)| {
+        let mut table = one;
+        change(&mut table);
+        table
+    };
+    stream.write("both with a jitter", 42, &two_jobs_late(1, 1), &own);
+    stream.write("a jitter, unassigned", 42, &with(clear), &own);
+    stream.write("a jitter, room for one byte less", 41, &one, &own);
+    stream.write("a jitter, no room", 0, &one, &own);
+    for (what, change) in BESIDE_A_JITTER {
+        stream.write(what, 42, &with(change), &own);
+        stream.write(&format!("{what}, no room"), 0, &with(change), &own);
+    }
+    stream.write("a jitter, an own word of 0", 42, &one, &[2, 3, 1, 0]);
+    stream.write("a jitter, 101 words", 500, &one, &[1; 101]);
+    for (what, plate) in [
+        ("a jitter, a blank plate", plate(0, 0)),
+        ("a jitter, cabinet 25 bits", plate(1 << 24, 12)),
+    ] {
+        stream.add(2, what, write_body(plate, 42, &one, &own, &[]));
+    }
+    let (mut fifteen, words) = fifteen_jobs();
+    fifteen.records[14].jitter = 1;
+    stream.write("the fifteenth has a jitter", 228, &fifteen, &words);
+    fifteen.n = 14;
+    clear(&mut fifteen);
+    stream.write("the same, past n", 300, &fifteen, &words);
+}
+
+/// What writing asks before 19.
+const BESIDE_A_JITTER: [(&str, fn(&mut Table)); 6] = [
+    ("a jitter, n is 16", |table| table.n = 16),
+    ("a jitter, cost 0", |table| table.records[0].cost = 0),
+    ("a jitter, and another of T", |table| {
+        table.records[0].jitter = 5
+    }),
+    ("a jitter, priorities 2 and 2", |table| {
+        table.records[0].priority = 2
+    }),
+    ("a jitter, count 0", |table| table.records[0].count = 0),
+    ("a jitter, a sum above the cost", |table| {
+        table.records[0].count = 2
+    }),
+];
 
 /// Document 01, "Bench figures", as far as response times go, and what turns the call away.
 fn response_times(stream: &mut Stream) {
@@ -760,6 +884,142 @@ fn response_times(stream: &mut Stream) {
     let odd = record_changed(1, |record| record.count = 9);
     stream.analysis(3, "regions are not looked at", &odd);
     turned_away_analysis(stream, 3);
+    response_times_late(stream);
+}
+
+/// Document 02, item 8: each place in which a jitter stands, the horizon, and a tick too late. Most
+/// tables are those of tests/jitter.rs.
+fn response_times_late(stream: &mut Stream) {
+    for (what, table) in jitter_tables() {
+        stream.analysis(3, what, &table);
+    }
+    for (what, table) in in_time_and_late() {
+        stream.analysis(3, what, &table);
+    }
+    for (what, table) in beyond_by_jitter() {
+        stream.analysis(3, what, &table);
+    }
+    for (what, (table, _)) in [
+        ("J in R", late(&[(1, 2, 2, 1)], &[1])),
+        ("J in S", late(&[(1, 2, 2, 1), (1, 3, 3, 0)], &[1, 1])),
+        (
+            "J in the ceiling of F",
+            late(&[(1, 3, 3, 1), (2, 4, 4, 0)], &[1, 2]),
+        ),
+        (
+            "J in what has started",
+            late(&[(1, 3, 3, 2), (1, 2, 4, 0)], &[1, 2]),
+        ),
+        ("a job more by its own J", late(&[(2, 4, 5, 3)], &[1])),
+        (
+            "jitters of three, the second blocked",
+            late(&[(1, 4, 4, 2), (1, 10, 10, 3), (4, 20, 20, 19)], &[1, 1, 2]),
+        ),
+        (
+            "jitters make a later job the worst",
+            late(&[(3, 5, 5, 1), (1, 3, 6, 1)], &[1, 1]),
+        ),
+        (
+            "jitter makes the first job the worst",
+            late(&[(3, 8, 8, 3), (3, 5, 9, 0)], &[1, 2]),
+        ),
+        (
+            "jitters of both, two later jobs reach R",
+            late(&[(3, 8, 8, 1), (3, 5, 10, 3)], &[1, 2]),
+        ),
+    ] {
+        stream.analysis(3, what, &table);
+    }
+    let (mut fifteen, _) = fifteen_jobs();
+    for (k, record) in (1..).zip(&mut fifteen.records) {
+        record.jitter = 40 * k - 1;
+    }
+    stream.analysis(3, "fifteen tasks, each jitter T - 1", &fifteen);
+    let light = changed_places(&fifteen_light_jobs_late());
+    stream.analysis(3, "fifteen light tasks with jitters", &light);
+    let unassigned = late_and(clear);
+    stream.analysis(3, "a jitter, unassigned", &unassigned);
+    stream.analysis(3, "a jitter, priorities 2 and 2", &late_and(two_and_two));
+    stream.analysis(3, "jitter T, unassigned", &jitter_t_and(clear));
+    stream.analysis(3, "jitter T, n is 16", &jitter_t_and(|table| table.n = 16));
+}
+
+/// The table with priorities 1 to n, each threshold the priority itself.
+fn changed_places(table: &Table) -> Table {
+    let mut table = *table;
+    for (k, record) in (1..).zip(&mut table.records) {
+        (record.priority, record.threshold) = (k, k);
+    }
+    table
+}
+
+fn two_and_two(table: &mut Table) {
+    table.records[0].priority = 2;
+}
+
+/// The two jobs with a jitter that is taken, and this.
+fn late_and(change: fn(&mut Table)) -> Table {
+    let mut table = two_jobs_late(1, 0);
+    change(&mut table);
+    table
+}
+
+/// The two jobs with a jitter that isn't taken, and this.
+fn jitter_t_and(change: fn(&mut Table)) -> Table {
+    let mut table = two_jobs_late(0, 10);
+    change(&mut table);
+    table
+}
+
+/// Jitters with which the two jobs just pass, and with which one of them is late by a tick; and a
+/// later job that is the worst only by the jitter of the task above.
+fn in_time_and_late() -> [(&'static str, Table); 6] {
+    let later = |jitter: u32, deadline: u32| {
+        let tasks = [(2, 5, 5, jitter), (1, 2, deadline, 0)];
+        late(&tasks, &[1, 1]).0
+    };
+    [
+        ("jitters 3 and 0: both just in time", two_jobs_late(3, 0)),
+        (
+            "jitters 4 and 0: the first a tick late",
+            two_jobs_late(4, 0),
+        ),
+        (
+            "jitters 3 and 1: the second a tick late",
+            two_jobs_late(3, 1),
+        ),
+        ("a later job by jitter, in time", later(2, 4)),
+        ("the same, a tick late", later(2, 3)),
+        ("the same without jitter", later(0, 3)),
+    ]
+}
+
+/// L, S and F are at or below the horizon, or L alone is above it by a jitter; and times above it.
+fn beyond_by_jitter() -> [(&'static str, Table); 9] {
+    let most = 1_000_000;
+    let one = |cost| late(&[(cost, most, most, most - 1)], &[1]).0;
+    let above = |jitter| {
+        let tasks = [(300_000, most, most, jitter), (600_000, most, most, 0)];
+        late(&tasks, &[1, 1]).0
+    };
+    let largest = [(999_998, most, most, 0), (1, most, most, most - 1)];
+    [
+        ("R 1,000,000 by jitter", one(1)),
+        ("R 1,000,001 by jitter", one(2)),
+        ("L 1,000,000 by jitter", one(500_000)),
+        ("L 1,000,002 by jitter", one(500_001)),
+        ("R 1,999,998 by jitter", late(&largest, &[1, 2]).0),
+        ("L 900,000, not yet another job", above(100_000)),
+        ("the same, another job by a tick of jitter", above(100_001)),
+        (
+            "L above the horizon by its own jitter",
+            late(&[(300_001, 400_000, 400_000, 399_999)], &[1]).0,
+        ),
+        (
+            "the same without jitter",
+            late(&[(300_001, 400_000, 400_000, 0)], &[1]).0,
+        ),
+    ]
 }
 
 /// Document 02, item 5: where a tick less of what blocks shows, and an arrival at the start.
@@ -987,6 +1247,101 @@ fn tolerances_and_lengths(stream: &mut Stream, kind: u8) {
     stream.analysis(kind, "fifteen tasks", &fifteen_jobs().0);
     turned_away_analysis(stream, kind);
     stream.analysis(kind, "a deadline above its period", &above_period());
+    tolerances_late(stream, kind);
+}
+
+/// Document 02, item 8: the range and the sum of a tolerance, and 16 of a task that has none.
+fn tolerances_late(stream: &mut Stream, kind: u8) {
+    for (what, table) in jitter_tables() {
+        stream.analysis(kind, what, &table);
+    }
+    for (what, (table, _)) in tables_of_16() {
+        stream.analysis(kind, what, &table);
+    }
+    for (what, table) in [
+        ("jitters 3 and 0", two_jobs_late(3, 0)),
+        ("jitters 3 and 1", two_jobs_late(3, 1)),
+        ("jitters 1 and 1", two_jobs_late(1, 1)),
+    ] {
+        stream.analysis(kind, what, &table);
+    }
+    let most = 1_000_000;
+    for (what, jitter) in [
+        ("the largest deadline, one t", most - 1),
+        ("the same, half of it", most / 2),
+    ] {
+        let tasks = [(1, 2, 2, 1), (1, most, most, jitter)];
+        stream.analysis(kind, what, &late(&tasks, &[1, 2]).0);
+    }
+    for (what, (table, _)) in at_most_one_t() {
+        stream.analysis(kind, what, &table);
+    }
+    let light = changed_places(&fifteen_light_jobs_late());
+    stream.analysis(kind, "fifteen light tasks with jitters", &light);
+    for (what, table) in [
+        ("no t, unassigned", no_t_and(clear)),
+        ("no t, priorities 2 and 2", no_t_and(two_and_two)),
+        (
+            "no t, a deadline above its period",
+            no_t_and(|table| table.records[1].deadline = 11),
+        ),
+        ("jitter T, unassigned", jitter_t_and(clear)),
+        (
+            "jitter T, a deadline above its period",
+            jitter_t_and(|table| table.records[0].deadline = 6),
+        ),
+    ] {
+        stream.analysis(kind, what, &table);
+    }
+}
+
+/// The two jobs, of which the first has no t, and this.
+fn no_t_and(change: fn(&mut Table)) -> Table {
+    changed(|table| {
+        (table.records[0].deadline, table.records[0].jitter) = (4, 4);
+        change(table);
+    })
+}
+
+/// A cost of 1 above B: its one t leaves a tolerance of 0, and a tick of jitter more leaves no t.
+fn at_most_one_t() -> [(&'static str, (Table, Vec<u32>)); 2] {
+    let of = |jitter| late(&[(1, 9, 4, jitter), (1, 10, 10, 0)], &[1, 2]);
+    [
+        ("one t, and the cost in it", of(3)),
+        ("the same, no t", of(4)),
+    ]
+}
+
+/// Which record 16 names: tolerances the lowest that has no t, lengths and the region check the lowest
+/// that has none or one below zero.
+fn tables_of_16() -> [(&'static str, (Table, Vec<u32>)); 6] {
+    let below = (8, 32, 21, 0);
+    let none = (14, 59, 41, 50);
+    let swapped = |tasks: &[(u32, u32, u32, u32)]| {
+        let (mut table, words) = late(tasks, &[1, 2]);
+        for (record, priority) in table.records.iter_mut().zip([2, 1]) {
+            (record.priority, record.threshold) = (priority, priority);
+        }
+        (table, words)
+    };
+    let late_below = (8, 32, 21, 21);
+    [
+        ("below zero, then no t", swapped(&[below, none])),
+        ("no t, then below zero", late(&[none, below], &[1, 2])),
+        ("no t twice", late(&[none, late_below], &[1, 2])),
+        (
+            "the same, the lower task first",
+            swapped(&[late_below, none]),
+        ),
+        (
+            "the third alone has no t",
+            late(&[(1, 9, 9, 8), (1, 20, 20, 1), (1, 50, 3, 3)], &[1, 2, 3]),
+        ),
+        (
+            "the third alone is below zero",
+            late(&[(1, 9, 9, 8), (1, 20, 20, 1), (1, 50, 3, 1)], &[1, 2, 3]),
+        ),
+    ]
 }
 
 fn above_period() -> Table {
@@ -1028,6 +1383,44 @@ fn region_check(stream: &mut Stream) {
     stream.check("A (2,5,1)", &late, &own, &[]);
     let (below, words) = both_below();
     stream.check("both tolerances below zero", &below, &words, &[]);
+    region_check_late(stream);
+}
+
+/// Document 02, item 8: what the other two are asked, and regions as long as a jitter lets them be.
+fn region_check_late(stream: &mut Stream) {
+    let (_, own) = two_jobs();
+    for (what, table) in jitter_tables() {
+        stream.check(what, &table, &own, &[]);
+    }
+    for (what, (table, words)) in tables_of_16().iter().chain(&at_most_one_t()) {
+        stream.check(what, table, words, &[]);
+    }
+    let (whole, words) = late(&[(2, 5, 5, 1), (4, 10, 10, 0)], &[1, 2]);
+    stream.check("jitter 1, one region of 4", &whole, &words, &[]);
+    let tick = changed(|table| {
+        table.records[0].jitter = 3;
+        table.records[1].count = 4;
+    });
+    let ticks = [2, 1, 1, 1, 1];
+    stream.check("jitter 3, regions of 1", &tick, &ticks, &[]);
+    stream.check("jitter 3, a region of 3", &two_jobs_late(3, 0), &own, &[]);
+    for (what, table) in [
+        (
+            "no t, count 0",
+            no_t_and(|table| table.records[1].count = 0),
+        ),
+        ("no t, unassigned", no_t_and(clear)),
+        (
+            "no t, a deadline above its period",
+            no_t_and(|table| table.records[1].deadline = 11),
+        ),
+        (
+            "jitter T, count 0",
+            jitter_t_and(|table| table.records[0].count = 0),
+        ),
+    ] {
+        stream.check(what, &table, &own, &[]);
+    }
 }
 
 /// Regions just as long as they may be, and a tick longer.
@@ -1078,6 +1471,7 @@ fn rows(stream: &mut Stream) {
     for (what, table) in out_of_range_tables() {
         stream.first_row(what, 4, &table);
     }
+    first_rows_late(stream);
     stream.next_row("after the first", 4, &paper, &[1, 2, 1, 1]);
     stream.next_row("to another order", 4, &paper, &[1, 2, 1, 2]);
     stream.next_row("after the third", 4, &paper, &[2, 1, 1, 1]);
@@ -1097,6 +1491,50 @@ fn rows(stream: &mut Stream) {
     for (what, table) in out_of_range_tables() {
         stream.next_row(what, 4, &table, &[1, 2, 1, 1]);
     }
+    next_rows_late(stream);
+}
+
+/// Document 02, item 8: the widened table is what the rows are tried on.
+fn first_rows_late(stream: &mut Stream) {
+    for (what, table) in jitter_tables() {
+        stream.first_row(what, 4, &table);
+    }
+    for (what, table) in in_time_and_late() {
+        stream.first_row(what, 4, &table);
+    }
+    for (what, table) in beyond_by_jitter() {
+        stream.first_row(what, 4, &table);
+    }
+    let light = fifteen_light_jobs_late();
+    stream.first_row("fifteen light tasks with jitters", 30, &light);
+    stream.first_row("jitter T, no room", 0, &two_jobs_late(5, 0));
+    stream.first_row("jitter 1, no room", 0, &two_jobs_late(1, 0));
+}
+
+/// The same, from a row on.
+fn next_rows_late(stream: &mut Stream) {
+    let first = [1, 2, 1, 1];
+    for (what, table) in jitter_tables() {
+        stream.next_row(what, 4, &table, &first);
+    }
+    for (what, table) in in_time_and_late() {
+        stream.next_row(what, 4, &table, &first);
+    }
+    let paper = |jitter| late(&[(2, 5, 6, jitter), (4, 10, 10, 0)], &[1, 2]).0;
+    for (what, jitter) in [("jitter 0", 0), ("jitter 1", 1)] {
+        let what = format!("A (2,5,6), {what}, to another order");
+        stream.next_row(&what, 4, &paper(jitter), &[1, 2, 1, 2]);
+    }
+    let light = fifteen_light_jobs_late();
+    let middle = [8, 15, 1, 7, 14, 2, 6, 13, 3, 5, 12, 4, 11, 9, 10];
+    let row = [middle, [1; 15]].concat();
+    stream.next_row("fifteen light tasks with jitters", 30, &light, &row);
+    let late = two_jobs_late(5, 0);
+    stream.next_row("jitter T, no room", 0, &late, &first);
+    stream.next_row("jitter T, a bad row", 4, &late, &[1, 1, 1, 1]);
+    let taken = two_jobs_late(1, 0);
+    stream.next_row("jitter 1, no room", 0, &taken, &first);
+    stream.next_row("jitter 1, a bad row", 4, &taken, &[1, 1, 1, 1]);
 }
 
 /// Rows in which a later job is the worst: it is in time, or it alone is late.
@@ -1237,6 +1675,10 @@ fn regions(stream: &mut Stream) {
     stream.regions("a region word of 1,000,001", 1, &table, &large, &[]);
     let bad = &tables(&BAD_REGIONS)[0].1;
     stream.regions("no such record, and bad regions", 3, bad, &own, &[]);
+    // This call asks nothing of a jitter.
+    for (what, table) in tables(&JITTERS) {
+        stream.regions(what, 2, &table, &own, &[]);
+    }
 }
 
 fn names(stream: &mut Stream) {
@@ -1273,10 +1715,11 @@ pub fn refusals() -> String {
          The lines of `crates/ask/stdin`, a stream of requests, and of `crates/ask/stdout`, its \
          answers: line k answers request k. Both and this page are written by the second program \
          (`second cases`, `second ask`, `second refusals`); `tools/make-cases` makes them anew. \
-         Document 01, \"Numbers a turned-away call returns\", lists the numbers that each call asks, and \
-         document 02, item 1, adds 18. They stand here in the order in which a call asks them, so that the \
-         first that applies is the one it gives: mostly the lowest, but 18 is asked straight after 2 in reading \
-         and straight after 5 in writing, and 13 before 11 for a record's regions.\n\n\
+         Document 01, \"Numbers a turned-away call returns\", lists the numbers that each call asks. \
+         Document 02 adds 18 in item 1 and in item 8 the writing's 19 and the tolerances' 16. They stand here \
+         in the order in which a call asks them, so that the first that applies is the one it gives: mostly the \
+         lowest, but 18 is asked straight after 2 in reading and straight after 5 in writing, 19 between 11 and \
+         12 in writing, and 13 before 11 for a record's regions.\n\n\
          ## By call and number\n\n\
          | call | number | lines |\n|---|---|---|\n",
     );
@@ -1509,7 +1952,7 @@ fn show_inputs() -> Vec<(String, Vec<u8>)> {
 fn every_refusal_is_reached() {
     let cases = all();
     for (place, (call, numbers)) in CALLS.iter().enumerate() {
-        for number in 1..=18 {
+        for number in 1..=19 {
             let lines = lines_of(&cases, place as u8 + 1, Some(number));
             assert_eq!(
                 lines.is_empty(),

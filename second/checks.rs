@@ -1,8 +1,8 @@
 //! The conditions of document 01, "Numbers a turned-away call returns", each by itself, with 18 of
-//! document 02, item 1. A call asks its own numbers one by one, and the first that applies wins; a
-//! condition may therefore rely on those that its call asks before it. They are asked from the
-//! lowest up, but for two: 18 comes straight after 2 in reading and straight after 5 in writing,
-//! and a record's regions are asked 13 before 11.
+//! document 02, item 1, and 19 of its item 8. A call asks its own numbers one by one, and the first
+//! that applies wins; a condition may therefore rely on those that its call asks before it. They are
+//! asked from the lowest up, but for three: 18 comes straight after 2 in reading and straight after
+//! 5 in writing, 19 comes between 11 and 12, and a record's regions are asked 13 before 11.
 
 use crate::table::*;
 use std::fmt;
@@ -64,12 +64,24 @@ pub fn numbers_wrong(table: &Table) -> bool {
             || ticks_wrong(task.period)
             || ticks_wrong(task.deadline)
             || task.name > MOST_NAME_NUMBER
+            || jitter_wrong(task)
     })
+}
+
+/// A jitter lies from 0 to T - 1, whatever the deadline is.
+fn jitter_wrong(task: &Record) -> bool {
+    task.jitter >= task.period
 }
 
 /// The range of costs, periods, deadlines and region words.
 pub fn ticks_wrong(ticks: u32) -> bool {
     ticks < 1 || ticks > MOST_TICKS
+}
+
+/// 19: edition 1 has no place for a jitter, so a table is written as such a file only where every
+/// one is 0.
+pub fn jitter_without_a_place(table: &Table) -> bool {
+    table.tasks().iter().any(|task| task.jitter != 0)
 }
 
 /// 10: neither all zero nor well formed.

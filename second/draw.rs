@@ -1,7 +1,8 @@
 //! Cabinets, rows and name lists drawn from random numbers: all of them good, so that a call
 //! takes them. What makes them wrong stands in spoil.rs.
 
-use crate::analysis::{passes, response, response_times, Response, Tasks};
+use crate::analysis::{blocking, finish, passes, response, response_times, start};
+use crate::analysis::{Response, Tasks};
 use crate::lengths::{lengths, tolerances};
 use crate::random::Random;
 use crate::table::*;
@@ -60,7 +61,7 @@ pub fn cabinet(random: &mut Random, n: u32, lent: bool) -> Cabinet {
 /// Own words behind those that records name, up to as many as a file holds.
 fn unnamed_words(random: &mut Random, own: &mut Vec<u32>) {
     let most = MOST_REGION_WORDS;
-    let m = random.one_of(&[most - 1, most, most]);
+    let m = random.one_of(&[most - 1, most - 1, most, most, most]);
     let word = random.one_of(&[1, MOST_TICKS]);
     if own.len() < m {
         own.resize(m, word);
@@ -206,7 +207,8 @@ fn lowest(table: &Table) -> usize {
 }
 
 /// Every deadline at the response time or behind it, but for one, mostly, that is just kept or
-/// missed by a tick. The table stays as it is where a task is beyond, or none has a priority.
+/// missed by a tick. The table stays as it is where a task is beyond or takes longer than any
+/// deadline, or none has a priority.
 pub fn deadlines_at_the_times(random: &mut Random, table: &mut Table) {
     let Ok(responses) = response_times(table) else {
         return;
@@ -214,12 +216,58 @@ pub fn deadlines_at_the_times(random: &mut Random, table: &mut Table) {
     let Some(responses) = responses.into_iter().collect::<Option<Vec<Response>>>() else {
         return;
     };
+    if responses
+        .iter()
+        .any(|response| response.time > MOST_TICKS as i64)
+    {
+        return;
+    }
     for (record, response) in table.records.iter_mut().zip(&responses) {
         record.deadline = record.deadline.max(response.time as u32);
     }
     let k = random.place(responses.len());
     let less = random.one_of(&[0, 0, 1]);
     table.records[k].deadline = (responses[k].time as u32 - less).max(1);
+}
+
+/// All tasks together load the processor fully, with long periods and deadlines, and one of them,
+/// mostly the lowest, is late: its active period has no end, though each job finishes soon.
+pub fn full_and_late(random: &mut Random, table: &mut Table) {
+    let n = table.n as usize;
+    let mut sum = 0;
+    for record in &mut table.records[..n] {
+        record.cost = random.from(10_000, 20_000);
+        record.jitter = 0;
+        sum += record.cost;
+    }
+    for record in &mut table.records[..n] {
+        record.period = sum;
+        record.deadline = random.from(2 * sum, 3 * sum);
+    }
+    let any = random.place(n);
+    let k = random.one_of(&[lowest(table), any]);
+    table.records[k].jitter = random.from(1, sum / 2);
+}
+
+/// The lowest task is so late that its response time lies above the horizon, though its active
+/// period ends before: all others together leave it some of their one period, and it costs little.
+pub fn late_above_the_horizon(random: &mut Random, table: &mut Table) {
+    let n = table.n as usize;
+    let lowest = lowest(table);
+    let mut used = 0;
+    for (k, record) in table.records[..n].iter_mut().enumerate() {
+        // Two jobs of the lowest stand in its active period, one of each other task.
+        record.cost = if k == lowest {
+            random.from(1, 50_000)
+        } else {
+            random.from(1, 850_000 / n as u32)
+        };
+        used += record.cost;
+        record.period = MOST_TICKS;
+        record.deadline = MOST_TICKS;
+        record.jitter = 0;
+    }
+    table.records[lowest].jitter = random.from(MOST_TICKS - used + 1, MOST_TICKS - 1);
 }
 
 /// The cost of one of n tasks that together load the processor by so much of a hundred.
@@ -300,6 +348,119 @@ fn order_by_deadline(table: &mut Table) {
     for (k, (priority, threshold)) in order.into_iter().zip(places) {
         (table.records[k].priority, table.records[k].threshold) = (priority, threshold);
     }
+}
+
+// ---- jitter
+
+/// Whether some task has a jitter.
+pub fn is_late(table: &Table) -> bool {
+    let n = (table.n as usize).min(MOST_TASKS);
+    table.records[..n].iter().any(|record| record.jitter > 0)
+}
+
+/// Gives half of the tables a jitter.
+pub fn give_jitters(random: &mut Random, table: &mut Table) {
+    if random.once_in(2) {
+        draw_jitters(random, table);
+    }
+}
+
+/// Gives a table jitters inside their range, some other than 0 where any period is above 1: small
+/// ones mostly, as large ones leave no room for the tasks below.
+pub fn draw_jitters(random: &mut Random, table: &mut Table) {
+    let n = table.n as usize;
+    let one = random.place(n);
+    match random.from(0, 11) {
+        0..=4 => {
+            for record in &mut table.records[..n] {
+                record.jitter = small_jitter(random, record.period);
+            }
+        }
+        5..=7 => table.records[one].jitter = any_jitter(random, table.records[one].period),
+        8..=10 => one_at_a_limit(random, table),
+        _ => {
+            for record in &mut table.records[..n] {
+                record.jitter = any_jitter(random, record.period);
+            }
+        }
+    }
+    at_least_one(table);
+}
+
+/// At most about an eighth of the period, and 0 as often as not.
+fn small_jitter(random: &mut Random, period: u32) -> u32 {
+    let some = random.from(0, (period / 8 + 1).min(period - 1));
+    random.one_of(&[0, some])
+}
+
+fn any_jitter(random: &mut Random, period: u32) -> u32 {
+    random.from(0, period - 1)
+}
+
+/// 1, the most that there is, or about a deadline, which comes below the period for it.
+fn jitter_at_a_limit(random: &mut Random, record: &mut Record) {
+    let most = record.period - 1;
+    if most > 1 && !random.once_in(3) {
+        record.deadline = record.deadline.min(most - 1);
+        let due = record.deadline;
+        record.jitter = random.one_of(&[due - 1, due, due + 1, due + 1]);
+    } else {
+        record.jitter = random.one_of(&[1, most]).min(most);
+    }
+}
+
+/// One task's jitter is at a limit, whatever the others have.
+pub fn one_at_a_limit(random: &mut Random, table: &mut Table) {
+    let k = random.place(table.n as usize);
+    jitter_at_a_limit(random, &mut table.records[k]);
+}
+
+/// Where all came to 0, the first task that can have a jitter has one of a tick.
+fn at_least_one(table: &mut Table) {
+    if is_late(table) {
+        return;
+    }
+    let mut tasks = table.records[..table.n as usize].iter_mut();
+    if let Some(task) = tasks.find(|task| task.period > 1) {
+        task.jitter = 1;
+    }
+}
+
+/// Halves the jitters until no tolerance is below zero, and none missing, if that can be had by
+/// jitters alone.
+pub fn ease_jitters(table: &mut Table) {
+    let mut still = *table;
+    for record in &mut still.records {
+        record.jitter = 0;
+    }
+    if !is_late(table) || lengths(&still).is_err() {
+        return;
+    }
+    while lengths(table).is_err() {
+        for record in &mut table.records[..table.n as usize] {
+            record.jitter /= 2;
+        }
+    }
+    at_least_one(table);
+}
+
+/// The highest task costs one tick and is so late that a single instant is left for it, which is
+/// enough. The cabinet stays as it is where no word can be added or the table is unassigned.
+pub fn one_instant(random: &mut Random, cabinet: &mut Cabinet) {
+    let tasks = cabinet.table.tasks();
+    let Some(k) = (0..tasks.len()).find(|k| tasks[*k].priority == 1) else {
+        return;
+    };
+    if cabinet.own.len() == MOST_REGION_WORDS {
+        return;
+    }
+    let record = &mut cabinet.table.records[k];
+    record.deadline = record.deadline.min(record.period);
+    record.cost = 1;
+    // Once in a while there is an instant more.
+    record.jitter = (record.deadline - 1).saturating_sub(random.one_of(&[0, 0, 0, 1]));
+    (record.source, record.first, record.count) = (Source::Own, cabinet.own.len() as u32, 1);
+    cabinet.own.push(1);
 }
 
 // ---- regions
@@ -476,14 +637,15 @@ pub const MANY_TASKS: u32 = 5;
 pub const SOME_TASKS: u32 = 8;
 
 /// A table of many tasks whose first passing row is one of the first n·(n-1): both programs walk
-/// row by row, so it must be near. Half the time it is the first row of all.
-pub fn near_table(random: &mut Random) -> Table {
+/// row by row, so it must be near. Half the time it is the first row of all. Its tasks are late, or
+/// none is.
+pub fn near_table(random: &mut Random, late: bool) -> Table {
     let some = random.from(MANY_TASKS, SOME_TASKS);
     let more = random.from(SOME_TASKS + 1, MOST_TASKS as u32);
     let n = random.one_of(&[some, more]);
     let row_of_all = random.once_in(2);
     loop {
-        let mut table = light_table(random, n);
+        let mut table = light_table(random, n, late);
         let first = first_row(n as usize);
         if row_of_all {
             if row_passes(&table, &first) {
@@ -502,7 +664,7 @@ pub fn near_table(random: &mut Random) -> Table {
 }
 
 /// Tasks with time to spare, the earliest deadline first.
-fn light_table(random: &mut Random, n: u32) -> Table {
+fn light_table(random: &mut Random, n: u32, late: bool) -> Table {
     let mut table = Table {
         n: n as u8,
         ..Table::default()
@@ -511,6 +673,9 @@ fn light_table(random: &mut Random, n: u32) -> Table {
     calm_times(random, &mut table, load);
     give_names(random, &mut table);
     table.records[..n as usize].sort_by_key(|record| record.deadline);
+    if late {
+        draw_jitters(random, &mut table);
+    }
     table
 }
 
@@ -523,9 +688,13 @@ fn pass_at(random: &mut Random, table: &mut Table, row: &[u8], other: &[u8]) -> 
     else {
         return false;
     };
+    // No deadline is kept by a time above all of them.
+    if times.iter().any(|time| *time > MOST_TICKS) {
+        return false;
+    }
     let mut later = Vec::new();
     for (k, time) in times_of(table, other).into_iter().enumerate() {
-        let time = time.unwrap_or(MOST_TICKS + 1);
+        let time = time.unwrap_or(MOST_TICKS + 1).min(MOST_TICKS + 1);
         if time > times[k] {
             later.push((k, time));
         }
@@ -593,6 +762,57 @@ fn row_made_to_pass(random: &mut Random, table: &mut Table) -> Vec<u8> {
         }
     }
     last_row(table.n as usize)
+}
+
+/// A row in which one task is late by a tick, mostly, or just in time, and all others keep their
+/// deadlines: what the table's jitters add decides. It comes with deadlines for that; nothing comes
+/// where a task is beyond, or takes longer than any deadline.
+pub fn row_at_the_times(random: &mut Random, table: &mut Table) -> Option<Vec<u8>> {
+    let n = table.n as usize;
+    let (mut row, later) = row_that_finishes_later(random, table);
+    let times: Option<Vec<u32>> = times_of(table, &row).into_iter().collect();
+    let times = times.filter(|times| times.iter().all(|time| *time <= MOST_TICKS))?;
+    for (record, time) in table.records.iter_mut().zip(&times) {
+        record.deadline = record.deadline.max(*time);
+    }
+    let any = random.place(n);
+    let later = later.unwrap_or(any);
+    let k = random.one_of(&[any, later, later, later]);
+    let less = random.one_of(&[1, 1, 0]);
+    table.records[k].deadline = (times[k] - less).max(1);
+    for _ in 0..random.one_of(&[1, 1, 2, 5]) {
+        step_back(&mut row);
+    }
+    Some(row)
+}
+
+/// Any row, or one of the first order, which the search from the start comes to soon; and a task in
+/// it that jitters make finish later, if some tries come to one.
+fn row_that_finishes_later(random: &mut Random, table: &Table) -> (Vec<u8>, Option<usize>) {
+    let n = table.n as usize;
+    let mut row = Vec::new();
+    for _ in 0..8 {
+        row = any_row(random, n);
+        if random.once_in(2) {
+            row = first_row(n);
+            for k in 0..n {
+                row[n + k] = threshold_of(random, k as u32 + 1) as u8;
+            }
+        }
+        let tasks = tasks_in(table, &row);
+        if let Some(later) = (0..n).find(|i| finishes_later(&tasks, *i)) {
+            return (row, Some(later));
+        }
+    }
+    (row, None)
+}
+
+/// Whether jitters make the first job finish later than it would without them from the same start.
+fn finishes_later(tasks: &Tasks, i: usize) -> bool {
+    let mut still = *tasks;
+    still.jitter = [0; MOST_TASKS];
+    let start = start(tasks, i, blocking(tasks, i), 0, 0);
+    start.is_some_and(|s| finish(tasks, i, s) > finish(&still, i, s))
 }
 
 fn row_passes(table: &Table, row: &[u8]) -> bool {

@@ -105,7 +105,7 @@ pub fn take_all(file: &[u8], n: u8, m: usize) -> (Table, Vec<u32>, u32) {
 }
 
 /// A record but for its spare bits: C 20, T 20, D 20, priority 4, threshold 4, region source 1,
-/// first region 7, region count 7, name number 7.
+/// first region 7, region count 7, name number 7. It has no place for a jitter, which is 0.
 fn take_record(fields: &mut Taker) -> Record {
     Record {
         cost: fields.take(20),
@@ -117,10 +117,11 @@ fn take_record(fields: &mut Taker) -> Record {
         first: fields.take(7),
         count: fields.take(7),
         name: fields.take(7),
+        jitter: 0,
     }
 }
 
-/// Writing: asks 5, 18, 9, 10, 11, 12, writes the file to the front of `out` and hands back its
+/// Writing: asks 5, 18, 9, 10, 11, 19, 12, writes the file to the front of `out` and hands back its
 /// length.
 pub fn write(
     plate: Plate,
@@ -137,6 +138,7 @@ pub fn write(
     refuse(9, numbers_wrong(table) || plate.cabinet > MOST_CABINET)?;
     refuse(10, assignment_wrong(table))?;
     refuse(11, regions_wrong(table, own, catalogue))?;
+    refuse(19, jitter_without_a_place(table))?;
     let file = sealed(put_all(plate, table, own));
     refuse(12, out.len() < file.len())?;
     out[..file.len()].copy_from_slice(&file);

@@ -3,7 +3,7 @@
 //! cut at any length, with right and wrong seals. The same seed gives the same stream. What a
 //! stream is to reach, and did reach, is counted in reach.rs.
 
-use crate::analysis::{active_period, Tasks};
+use crate::analysis::{active_period, arrived, Tasks};
 use crate::checks::{numbers_wrong, task_count_wrong};
 use crate::draw::*;
 use crate::file;
@@ -72,9 +72,15 @@ fn every_cut(cabinet: &Cabinet, out: &mut impl FnMut(&[u8])) {
     }
 }
 
-/// A file that reads with each zero by itself and with all of them, beside everything else that may
-/// be wrong there.
+/// A file that reads with each zero by itself, with each pair of them and with all; and with each by
+/// itself and with all of them beside everything else that may be wrong there.
 fn every_zero(cabinet: &Cabinet, out: &mut impl FnMut(&[u8])) {
+    for (_, zeros) in BLANKS {
+        let (mut plate, mut file) = (cabinet.plate, whole_file(cabinet));
+        put_zeros(zeros, &mut plate, &mut file);
+        seal_again(&mut file);
+        put_read(plate, &cabinet.catalogue, &file, out);
+    }
     for (_, zeros) in alone_and_all() {
         for fault in BESIDE_ZEROS {
             let (mut plate, mut file) = (cabinet.plate, whole_file(cabinet));
@@ -133,8 +139,7 @@ fn most_jobs(table: &Table) -> u64 {
     }
     let largest = tasks.cost[..tasks.n].iter().copied().max().unwrap_or(1);
     let stretch = active_period(&tasks, tasks.n - 1, largest - 1).unwrap_or(MOST_TICKS as u64);
-    let periods = tasks.period[..tasks.n].iter();
-    periods.map(|period| stretch.div_ceil(*period)).sum()
+    (0..tasks.n).map(|j| arrived(&tasks, j, stretch)).sum()
 }
 
 /// An input that this number turns away: files are drawn until one is.
@@ -234,8 +239,16 @@ fn record_number(random: &mut Random, n: u8) -> u32 {
     random.one_of(&[some, some, some, n, 1, 0, n + 1, some + 256, 65_535])
 }
 
+/// The tables that are written are late once in so many: an edition 1 file has no place for a
+/// jitter, and most are to be written.
+const LATE_WRITING_ONCE_IN: u32 = 4;
+
 fn of_writing(random: &mut Random) -> Vec<u8> {
     let mut cabinet = any_cabinet(random);
+    if random.once_in(LATE_WRITING_ONCE_IN) {
+        draw_jitters(random, &mut cabinet.table);
+    }
+    wrong_jitter_once_in(5, random, &mut cabinet.table);
     spoil(random, &mut cabinet, &[0, 5, 9, 10, 11]);
     if random.once_in(12) {
         cabinet.plate.cabinet = random.one_of(&[MOST_CABINET, MOST_CABINET + 1, u32::MAX]);
@@ -253,21 +266,36 @@ fn of_writing(random: &mut Random) -> Vec<u8> {
     body
 }
 
+/// How often a jitter of a late table is out of its range, for the analysis and the listing.
+const WRONG_JITTER_ONCE_IN: u32 = 14;
+
+/// Of the late tables of tolerances, lengths and the region check: how often one has a record with no
+/// tolerance and another with one below zero, ...
+const TWO_OF_16_ONCE_IN: u32 = 20;
+/// ... how often a single instant is left to the highest task, ...
+const ONE_INSTANT_ONCE_IN: u32 = 10;
+/// ... and how often the jitters stay whether the table bears them or not.
+const UNEASED_ONCE_IN: u32 = 8;
+
 /// Response times, tolerances, lengths and the region check.
 fn of_analysis(random: &mut Random, kind: u8) -> Vec<u8> {
     let mut cabinet = any_cabinet(random);
     let asked: &[u8] = match kind {
         3 => &[0, 0, 5, 9, 10, 14],
         6 => &[0, 0, 5, 9, 10, 11, 14, 15, 16],
-        _ => &[0, 0, 0, 5, 9, 10, 14, 15, 16],
+        _ => &[0, 0, 0, 0, 5, 9, 10, 14, 15, 16],
     };
     match kind {
         3 => aimed_times(random, &mut cabinet.table),
-        5 if random.once_in(2) => cost_at_the_tolerance(random, &mut cabinet),
-        6 => aimed_regions(random, &mut cabinet),
-        _ => {}
+        _ => aimed_tolerances(random, &mut cabinet, kind),
     }
-    spoil(random, &mut cabinet, asked);
+    wrong_jitter_once_in(WRONG_JITTER_ONCE_IN, random, &mut cabinet.table);
+    if kind != 3 && is_late(&cabinet.table) && random.once_in(TWO_OF_16_ONCE_IN) {
+        two_of_16(random, &mut cabinet.table);
+    } else if kind != 5 || !random.once_in(6) {
+        // Lengths turn away the most tables, so more of theirs stay as they are.
+        spoil(random, &mut cabinet, asked);
+    }
     let mut body = Vec::new();
     put_table(&mut body, &cabinet.table);
     if kind == 6 {
@@ -279,15 +307,39 @@ fn of_analysis(random: &mut Random, kind: u8) -> Vec<u8> {
 
 /// Tables, more often than not, whose response times show what one drawn anyhow seldom shows.
 fn aimed_times(random: &mut Random, table: &mut Table) {
-    match random.from(0, 19) {
+    let way = random.from(0, 19);
+    match way {
         0..=3 => full_times(random, table),
         4 | 5 => short_times(random, table),
         6 | 7 => full_above_a_tick_or_two(random, table),
         8..=13 => return later_jobs(random, table),
+        14 => return late_above_the_horizon(random, table),
+        15 if random.once_in(2) => return full_and_late(random, table),
         _ => {}
+    }
+    // Where something is late, what is full has no end, blocked or not.
+    if ![6, 7].contains(&way) {
+        give_jitters(random, table);
     }
     if random.once_in(3) {
         deadlines_at_the_times(random, table);
+    }
+}
+
+/// Tables, half of them late, of which most bear their jitters; and costs or regions about as long as
+/// these tolerances let them be.
+fn aimed_tolerances(random: &mut Random, cabinet: &mut Cabinet, kind: u8) {
+    give_jitters(random, &mut cabinet.table);
+    if is_late(&cabinet.table) && random.once_in(ONE_INSTANT_ONCE_IN) {
+        one_instant(random, cabinet);
+    }
+    if !random.once_in(UNEASED_ONCE_IN) {
+        ease_jitters(&mut cabinet.table);
+    }
+    match kind {
+        5 if random.once_in(2) => cost_at_the_tolerance(random, cabinet),
+        6 => aimed_regions(random, cabinet),
+        _ => {}
     }
 }
 
@@ -302,13 +354,15 @@ fn aimed_regions(random: &mut Random, cabinet: &mut Cabinet) {
 }
 
 /// A row is searched for. Of few tasks all rows can be walked over; of many the table is drawn so
-/// that the search ends soon. Either way it is tried whether it does.
+/// that the search ends soon. Either way it is tried whether it does. Whether tasks are late is
+/// settled before, so that it stays half of the tables.
 fn of_rows(random: &mut Random, kind: u8) -> Vec<u8> {
+    let late = random.once_in(2);
     let (table, row) = loop {
         let (table, row) = if random.once_in(2) {
-            rows_of_few(random)
+            rows_of_few(random, late)
         } else {
-            rows_of_many(random, kind)
+            rows_of_many(random, kind, late)
         };
         let row = (kind == 8).then(|| spoilt_row(random, row));
         if soon_answered(&table, row.as_deref()) {
@@ -354,16 +408,28 @@ fn soon_answered(table: &Table, row: Option<&[u8]>) -> bool {
     walk.is_near(rows.min(MOST_ROWS_TRIED))
 }
 
-fn rows_of_few(random: &mut Random) -> (Table, Vec<u8>) {
+fn rows_of_few(random: &mut Random, late: bool) -> (Table, Vec<u8>) {
     let n = random.from(1, MANY_TASKS - 1);
     let mut cabinet = cabinet(random, n, true);
     past_the_last(random, &mut cabinet.table);
-    let row = if random.once_in(3) {
-        later_row(random, &mut cabinet.table)
-    } else {
-        None
+    if late {
+        draw_jitters(random, &mut cabinet.table);
+    }
+    let row = match random.from(0, 11) {
+        0..=3 => later_row(random, &mut cabinet.table, late),
+        4..=7 if late => row_at_the_times(random, &mut cabinet.table),
+        8 if late => {
+            full_and_late(random, &mut cabinet.table);
+            None
+        }
+        9 if late => {
+            one_at_a_limit(random, &mut cabinet.table);
+            None
+        }
+        _ => None,
     };
     let row = row.unwrap_or_else(|| any_row(random, cabinet.table.n as usize));
+    wrong_jitter_once_in(WRONG_JITTER_ONCE_IN, random, &mut cabinet.table);
     if random.once_in(2) {
         spoil(random, &mut cabinet, &[0, 0, 5, 9, 10, 14, 16]);
     }
@@ -371,14 +437,15 @@ fn rows_of_few(random: &mut Random) -> (Table, Vec<u8>) {
 }
 
 /// What is spoilt here is either asked before the search or ignored by it, so the row stays near.
-fn rows_of_many(random: &mut Random, kind: u8) -> (Table, Vec<u8>) {
-    let mut table = near_table(random);
+fn rows_of_many(random: &mut Random, kind: u8, late: bool) -> (Table, Vec<u8>) {
+    let mut table = near_table(random, late);
     let row = if kind == 8 {
         near_row(random, &mut table)
     } else {
         Vec::new()
     };
     past_the_last(random, &mut table);
+    wrong_jitter_once_in(WRONG_JITTER_ONCE_IN, random, &mut table);
     let k = random.place(table.n as usize);
     match random.from(0, 7) {
         0 => table.n = wrong_n(random),
@@ -406,6 +473,7 @@ fn spoilt_row(random: &mut Random, mut row: Vec<u8>) -> Vec<u8> {
 
 fn of_regions(random: &mut Random) -> Vec<u8> {
     let mut cabinet = any_cabinet(random);
+    give_jitters(random, &mut cabinet.table);
     spoil(random, &mut cabinet, &[0, 5, 9, 11, 11, 11]);
     // A record past n whose regions hold is no record all the same.
     if cabinet.table.n > 1 && random.once_in(6) {
@@ -499,6 +567,7 @@ pub fn put_table(body: &mut Vec<u8>, table: &Table) {
             r.first,
             r.count,
             r.name,
+            r.jitter,
         ] {
             body.extend(word.to_be_bytes());
         }

@@ -1,14 +1,14 @@
 //! Tables drawn so that a later job of some task is its worst one, or that several of its jobs reach
 //! the same value (document 02, item 4). A few tasks of small numbers are tried until the jobs of
-//! the lowest are as wished. Then each task above it is split into several of its period, and all
-//! numbers grow by one factor: neither changes which jobs are the worst.
+//! the lowest are as wished. Then each task above it is split into several of its period and its
+//! jitter, and all numbers grow by one factor: neither changes which jobs are the worst.
 
 use crate::analysis::{active_period, blocking, finish, jobs, start, Tasks};
-use crate::draw::{step_back, threshold_of};
+use crate::draw::{draw_jitters, step_back, threshold_of};
 use crate::random::Random;
 use crate::table::*;
 
-/// F - k·T(i) of each job of the active period; `None` is "beyond".
+/// F + J(i) - k·T(i) of each job of the active period; `None` is "beyond".
 pub fn differences(tasks: &Tasks, i: usize) -> Option<Vec<i64>> {
     differences_behind(tasks, i, blocking(tasks, i))
 }
@@ -18,7 +18,8 @@ fn differences_behind(tasks: &Tasks, i: usize, b: u64) -> Option<Vec<i64>> {
     let mut s = 0;
     let difference = |k: u64| {
         s = start(tasks, i, b, k, s)?;
-        Some(finish(tasks, i, s)? as i64 - (k * tasks.period[i]) as i64)
+        let f = finish(tasks, i, s)?;
+        Some((f + tasks.jitter[i]) as i64 - (k * tasks.period[i]) as i64)
     };
     (0..jobs(tasks, i, b)?).map(difference).collect()
 }
@@ -35,7 +36,7 @@ pub fn reaching(differences: &[i64]) -> Vec<usize> {
 type Wish = fn(&[i64], &[usize]) -> bool;
 
 /// The wishes as often as they are drawn.
-const WISHES: [Wish; 12] = [
+const WISHES: [Wish; 13] = [
     |_, worst| worst[0] > 0,
     |_, worst| worst[0] > 0,
     |_, worst| worst[0] > 0,
@@ -45,6 +46,7 @@ const WISHES: [Wish; 12] = [
     |_, worst| worst[0] > 0 && worst.len() > 2,
     |_, worst| worst[0] > 0 && worst.len() > 2,
     |_, worst| worst[0] == 0 && worst.len() > 1,
+    |all, worst| worst[0] > 0 && worst[0] == all.len() - 1,
     |all, worst| worst[0] > 0 && worst[0] == all.len() - 1,
     |all, worst| worst[0] > 0 && worst[0] == all.len() - 1,
     |all, worst| all.len() > 1 && worst == [0],
@@ -95,44 +97,48 @@ impl Few {
     }
 }
 
-/// Gives an assigned table of two tasks or more such times and such an assignment. A single task
-/// has a single job, and the highest of several is at its worst in the first.
+/// Gives an assigned table of two tasks or more such times and such an assignment, half of them with
+/// jitters. The highest of several tasks is at its worst in the first job, and so is a single one.
 pub fn later_jobs(random: &mut Random, table: &mut Table) {
     let n = table.n as usize;
+    let late = random.once_in(2);
     if n < 2 || table.records[0].priority == 0 {
+        if late {
+            draw_jitters(random, table);
+        }
         return;
     }
     let lower = random.place(4).min(n - 2);
-    draw_later_jobs(random, table, lower);
+    draw_later_jobs(random, table, lower, late);
 }
 
 /// The same with so many tasks below the one that all is about.
-fn draw_later_jobs(random: &mut Random, table: &mut Table, lower: usize) {
+fn draw_later_jobs(random: &mut Random, table: &mut Table, lower: usize, late: bool) {
     let n = table.n as usize;
     let most = (n - 1 - lower).min(3);
     let above = random.one_of(&[1, most, most]);
     let few = if above > 1 && random.once_in(12) {
-        few_as_wished(random, above, FAR, &UNEVEN)
+        few_as_wished(random, above, FAR, &UNEVEN, late)
     } else {
         let wish = random.one_of(&WISHES);
-        few_as_wished(random, above, wish, &SMALL)
+        few_as_wished(random, above, wish, &SMALL, late)
     };
     // Some wishes come seldom, and below a single task some never do.
-    let few = few.or_else(|| few_as_wished(random, above, WISHES[0], &SMALL));
+    let few = few.or_else(|| few_as_wished(random, above, WISHES[0], &SMALL, late));
     if let Some(few) = few {
         spread(random, table, &few, lower);
     }
 }
 
-/// Such a table of no tasks below, with deadlines that all others keep in its own row, and a row
-/// shortly before that one. The table stays as it is, and there is no row, where it is of one task
-/// or unassigned.
-pub fn later_row(random: &mut Random, table: &mut Table) -> Option<Vec<u8>> {
+/// Such a table of no tasks below, with jitters or without, with deadlines that all others keep in
+/// its own row, and a row shortly before that one. The table stays as it is, and there is no row,
+/// where it is of one task or unassigned.
+pub fn later_row(random: &mut Random, table: &mut Table, late: bool) -> Option<Vec<u8>> {
     let n = table.n as usize;
     if n < 2 || table.records[0].priority == 0 {
         return None;
     }
-    draw_later_jobs(random, table, 0);
+    draw_later_jobs(random, table, 0, late);
     let tasks = Tasks::of(table);
     for i in 0..n {
         let all = differences(&tasks, i)?;
@@ -144,6 +150,8 @@ pub fn later_row(random: &mut Random, table: &mut Table) -> Option<Vec<u8>> {
         } else {
             record.deadline.max(most)
         };
+        // Late by a jitter a job may take longer than any deadline.
+        record.deadline = record.deadline.min(MOST_TICKS);
     }
     let mut row = vec![0; 2 * n];
     for (k, record) in table.tasks().iter().enumerate() {
@@ -177,9 +185,15 @@ fn uneven_times(random: &mut Random, lowest: bool) -> (u64, u64) {
 }
 
 /// A task below so many others whose jobs are as wished, or nothing where none came.
-fn few_as_wished(random: &mut Random, above: usize, wish: Wish, draw: &Draw) -> Option<Few> {
+fn few_as_wished(
+    random: &mut Random,
+    above: usize,
+    wish: Wish,
+    draw: &Draw,
+    late: bool,
+) -> Option<Few> {
     for _ in 0..draw.tries {
-        let few = few(random, above, draw);
+        let few = few(random, above, draw, late);
         let wished = |few: &Few| wish(&few.differences, &reaching(&few.differences));
         if few.as_ref().is_some_and(wished) {
             return few;
@@ -189,10 +203,16 @@ fn few_as_wished(random: &mut Random, above: usize, wish: Wish, draw: &Draw) -> 
 }
 
 /// A task below so many others, or nothing where the load or the active period isn't such.
-fn few(random: &mut Random, above: usize, draw: &Draw) -> Option<Few> {
-    let (tasks, spare, whole) = few_tasks(random, above, draw)?;
+fn few(random: &mut Random, above: usize, draw: &Draw, late: bool) -> Option<Few> {
+    let (mut tasks, spare, whole) = few_tasks(random, above, draw)?;
+    // With a full load something late, or something that blocks, would have no end.
+    if late {
+        if spare == 0 {
+            return None;
+        }
+        few_jitters(random, &mut tasks);
+    }
     let some = random.from(1, 4) as u64;
-    // With a full load something that blocks would have no end.
     let b = if spare == 0 {
         0
     } else {
@@ -239,6 +259,20 @@ fn few_tasks(random: &mut Random, above: usize, draw: &Draw) -> Option<(Tasks, u
     Some((tasks, spare, whole))
 }
 
+/// Jitters of the few, one at least: most of them small, and seldom one that is as large as it may be.
+fn few_jitters(random: &mut Random, tasks: &mut Tasks) {
+    for j in 0..tasks.n {
+        let most = tasks.period[j] as u32 - 1;
+        let small = random.from(0, most.min(3));
+        let any = random.from(0, most);
+        tasks.jitter[j] = random.one_of(&[0, 0, small, small, small, any, most]) as u64;
+    }
+    if tasks.jitter[..tasks.n].iter().all(|jitter| *jitter == 0) {
+        // All periods are 2 at least.
+        tasks.jitter[random.place(tasks.n)] = 1;
+    }
+}
+
 /// The few tasks as the table's: all times longer by one factor, each of the higher tasks in several
 /// records, and so many tasks below that don't change its times.
 fn spread(random: &mut Random, table: &mut Table, few: &Few, lower: usize) {
@@ -254,8 +288,12 @@ fn spread(random: &mut Random, table: &mut Table, few: &Few, lower: usize) {
     let mut records: Vec<Record> = Vec::new();
     for (j, count) in parts.iter().enumerate() {
         let period = few.tasks.period[j] as u32 * factor;
+        let jitter = few.tasks.jitter[j] as u32 * factor;
         for cost in split(random, few.tasks.cost[j] as u32 * factor, *count) {
-            records.push(timed(cost, period, period));
+            records.push(Record {
+                jitter,
+                ..timed(cost, period, period)
+            });
         }
     }
     let cut_by: usize = parts[..few.tasks.threshold[target] as usize - 1]
@@ -356,7 +394,10 @@ fn target_record(random: &mut Random, few: &Few, factor: u32) -> Record {
     let more = worst + random.from(0, period);
     let deadline = random.one_of(&[worst, worst - 1, first, first - 1, period, more]);
     let deadline = deadline.clamp(1, MOST_TICKS);
-    timed(longer(few.tasks.cost[target]), period, deadline)
+    Record {
+        jitter: longer(few.tasks.jitter[target]),
+        ..timed(longer(few.tasks.cost[target]), period, deadline)
+    }
 }
 
 /// A task below: more than the processor can bear, mostly, or in the same period what is left of it,
@@ -392,5 +433,6 @@ fn put_records(random: &mut Random, table: &mut Table, records: &[Record], targe
         let new = &records[k];
         (record.cost, record.period, record.deadline) = (new.cost, new.period, new.deadline);
         (record.priority, record.threshold) = (new.priority, new.threshold);
+        record.jitter = new.jitter;
     }
 }

@@ -155,6 +155,7 @@ fn task(words: &[&str]) -> Option<Record> {
         first: number_of(words.next()?)?,
         count: number_of(words.next()?)?,
         name: named(&mut words, "name")?,
+        jitter: 0,
     };
     words.next().is_none().then_some(record)
 }

@@ -3,6 +3,7 @@
 
 mod analysis_calls;
 mod files;
+mod jitters;
 mod other_rules;
 mod parts_calls;
 mod rows;
@@ -12,14 +13,15 @@ use crate::analysis::{self, Response, Tasks};
 use crate::ask::Body;
 use crate::cases::CALLS;
 use crate::checks::{self, *};
-use crate::draw::{step_back, tasks_in, LIKE_A_SPACE};
+use crate::draw::{is_late, last_row, step_back, tasks_in, LIKE_A_SPACE};
 use crate::file;
 use crate::later::{differences, reaching};
 use crate::lengths;
 use crate::listing::Row;
-use crate::reach::Tally;
+use crate::reach::{Tally, LEAST};
 use crate::spoil::{blank_plates, Zero, ALONE, BLANKS};
 use crate::table::*;
+use jitters::*;
 use tables::*;
 
 /// The first words of each call's answers, refusals apart.
@@ -39,15 +41,16 @@ const ANSWERS: [&[&str]; CALLS.len()] = [
 
 /// Two numbers of a call that can apply together, the one that is asked first first, neighbours
 /// among its numbers where these can: if each of these pairs is answered by its first, so is every
-/// other pair. Beside 18, which is asked out of its turn, there are more of them. A table isn't
+/// other pair. Beside 18 and 19, which are asked out of their turn, there are more of them. A table isn't
 /// both ill formed (10) and unassigned (14).
 #[rustfmt::skip]
 const MEETINGS: [&[(u8, u8)]; CALLS.len()] = [
     &[(1, 2), (1, 18), (2, 18), (2, 3), (18, 3), (18, 4), (18, 5), (18, 7), (18, 12),
       (3, 4), (4, 5), (5, 6), (6, 7), (7, 8), (8, 9), (9, 10), (10, 11), (11, 12)],
-    &[(5, 18), (5, 9), (18, 9), (18, 10), (18, 11), (18, 12), (9, 10), (10, 11), (11, 12)],
+    &[(5, 18), (5, 9), (18, 9), (18, 10), (18, 11), (18, 12), (9, 10), (10, 11), (11, 12),
+      (5, 19), (18, 19), (9, 19), (10, 19), (11, 19), (19, 12)],
     &[(5, 9), (9, 10), (9, 14)],
-    &[(5, 9), (9, 10), (9, 14), (10, 15), (14, 15)],
+    &[(5, 9), (9, 10), (9, 14), (10, 15), (14, 15), (15, 16)],
     &[(5, 9), (9, 10), (9, 14), (10, 15), (14, 15), (15, 16)],
     &[(5, 9), (9, 10), (10, 11), (11, 14), (14, 15), (15, 16)],
     &[(5, 9), (9, 12)],
@@ -153,8 +156,8 @@ impl Faults {
         self.0.contains(&number)
     }
 
-    /// The first of two is answered while the second applies too: their order shows. Of 18 it is
-    /// noted too that nothing else applies: but for that the call would go on.
+    /// The first of two is answered while the second applies too: their order shows. Of 18 and 19 it
+    /// is noted too that nothing else applies: but for that the call would go on.
     fn note_meetings(&self, tally: &mut Tally, kind: u8, answer: &Answer) {
         let place = kind as usize - 1;
         for (first, second) in MEETINGS[place] {
@@ -162,9 +165,10 @@ impl Faults {
             tally.note(&format!("{first} before {second}"), met);
         }
         let asked = CALLS[place].1;
-        if asked.contains(&18) {
-            let others = asked.iter().any(|other| *other != 18 && self.has(*other));
-            tally.note("18 and no other", answer.refused(18) && !others);
+        for number in [18, 19].into_iter().filter(|number| asked.contains(number)) {
+            let mut others = asked.iter().filter(|other| **other != number);
+            let alone = answer.refused(number) && !others.any(|other| self.has(*other));
+            tally.note(&format!("{number} and no other"), alone);
         }
     }
 }

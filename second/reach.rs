@@ -7,7 +7,7 @@
 use crate::cases::CALLS;
 use crate::notes;
 use crate::Stop;
-use std::collections::BTreeMap;
+use std::collections::HashMap;
 use std::io::{BufRead, Read, Write};
 
 /// A stream of fewer requests can't reach everything, so nothing is asserted of it but that each
@@ -17,22 +17,22 @@ const SOME: u64 = 20_000;
 /// unless it is seldom.
 const MANY: u64 = 100_000;
 /// How often a thing is wanted of which nothing else is said. One that is wanted less is seldom.
-const LEAST: u64 = 20;
+pub const LEAST: u64 = 20;
 
 /// What one call reached.
 #[derive(Default)]
 pub struct Tally {
     requests: u64,
     turned_away: u64,
-    things: BTreeMap<String, Thing>,
+    things: HashMap<String, Thing>,
 }
 
 #[derive(Default)]
 struct Thing {
     came: u64,
     wanted: u64,
-    /// Where it is wanted once in so many requests of its call: in how many.
-    one_in: Option<u64>,
+    /// Where it is wanted as a share of its call's requests: so many in so many.
+    share: Option<(u64, u64)>,
 }
 
 impl Thing {
@@ -49,7 +49,8 @@ impl Thing {
 
     /// Whether it is wanted as a share of its call's requests, and came less often.
     fn falls_short(&self, requests: u64) -> bool {
-        self.one_in.is_some_and(|many| self.came * many < requests)
+        let short = |(part, whole)| self.came * whole < requests * part;
+        self.share.is_some_and(short)
     }
 }
 
@@ -64,24 +65,30 @@ impl Tally {
         self.note_thing(wanted, None, what, came);
     }
 
-    /// Notes a thing that is to come once in so many requests of the call, those that are turned
-    /// away among them.
-    pub fn note_share(&mut self, one_in: u64, what: &str, came: bool) {
-        self.note_thing(LEAST, Some(one_in), what, came);
+    /// Notes a thing that is to come so many times in so many requests of the call, those that are
+    /// turned away among them.
+    pub fn note_share(&mut self, share: (u64, u64), what: &str, came: bool) {
+        self.note_thing(LEAST, Some(share), what, came);
     }
 
-    fn note_thing(&mut self, wanted: u64, one_in: Option<u64>, what: &str, came: bool) {
-        if !self.things.contains_key(what) {
-            let thing = Thing {
-                came: 0,
-                wanted,
-                one_in,
-            };
-            self.things.insert(what.to_string(), thing);
+    fn note_thing(&mut self, wanted: u64, share: Option<(u64, u64)>, what: &str, came: bool) {
+        if let Some(thing) = self.things.get_mut(what) {
+            thing.came += came as u64;
+            return;
         }
-        if let (true, Some(thing)) = (came, self.things.get_mut(what)) {
-            thing.came += 1;
-        }
+        let thing = Thing {
+            came: came as u64,
+            wanted,
+            share,
+        };
+        self.things.insert(what.to_string(), thing);
+    }
+
+    /// All things in the order of their names.
+    fn sorted(&self) -> Vec<(&String, &Thing)> {
+        let mut things: Vec<(&String, &Thing)> = self.things.iter().collect();
+        things.sort_by_key(|(what, _)| *what);
+        things
     }
 }
 
@@ -142,7 +149,8 @@ fn print(tallies: &[Tally], output: &mut impl Write) -> Result<(), Stop> {
         "call", "requests", "turned away", "answered", "things"
     )?;
     for ((call, _), tally) in CALLS.iter().zip(tallies) {
-        let rarest = tally.things.iter().min_by_key(|(_, thing)| thing.came);
+        let things = tally.sorted();
+        let rarest = things.iter().min_by_key(|(_, thing)| thing.came);
         let rarest = rarest.map_or(String::from("-"), |(what, thing)| {
             format!("{what}: {}", thing.came)
         });
@@ -166,12 +174,12 @@ fn print(tallies: &[Tally], output: &mut impl Write) -> Result<(), Stop> {
 fn shares(tallies: &[Tally]) -> Vec<String> {
     let mut lines = Vec::new();
     for ((call, _), tally) in CALLS.iter().zip(tallies) {
-        for (what, thing) in &tally.things {
-            if let Some(one_in) = thing.one_in {
+        for (what, thing) in tally.sorted() {
+            if let Some((part, whole)) = thing.share {
                 let (came, requests) = (thing.came, tally.requests);
                 let share = 100.0 * came as f64 / requests as f64;
                 lines.push(format!(
-                    "{call}, {what}: {came} of {requests} answers, {share:.1} in a hundred; wanted one in {one_in}"
+                    "{call}, {what}: {came} of {requests} answers, {share:.1} in a hundred; wanted {part} in {whole}"
                 ));
             }
         }
@@ -189,16 +197,18 @@ fn missing(tallies: &[Tally], count: u64) -> Vec<String> {
         if tally.requests == 0 {
             lines.push(format!("{call}: no request"));
         }
-        for (what, thing) in &tally.things {
+        for (what, thing) in tally.sorted() {
             let wanted = thing.wanted_of(count);
             if thing.came < wanted {
                 lines.push(format!(
                     "{call}, {what}: came {} times, wanted {wanted}",
                     thing.came
                 ));
-            } else if let (true, Some(one_in)) = (thing.falls_short(tally.requests), thing.one_in) {
+            } else if let (true, Some((part, whole))) =
+                (thing.falls_short(tally.requests), thing.share)
+            {
                 lines.push(format!(
-                    "{call}, {what}: came {} times in {} answers, wanted one in {one_in}",
+                    "{call}, {what}: came {} times in {} answers, wanted {part} in {whole}",
                     thing.came, tally.requests
                 ));
             }
@@ -234,15 +244,15 @@ fn a_share_of_a_call() {
         tally.requests = 1_000;
     }
     for _ in 0..20 {
-        tallies[2].note_share(50, "shared", true);
+        tallies[2].note_share((1, 50), "shared", true);
     }
-    tallies[2].note_share(50, "shared", false);
+    tallies[2].note_share((1, 50), "shared", false);
     assert!(missing(&tallies, MANY).is_empty());
-    let said = "response times, shared: 20 of 1000 answers, 2.0 in a hundred; wanted one in 50";
+    let said = "response times, shared: 20 of 1000 answers, 2.0 in a hundred; wanted 1 in 50";
     assert_eq!(shares(&tallies), [said]);
     tallies[2].requests += 1;
     assert!(missing(&tallies, SOME - 1).is_empty());
-    let short = ["response times, shared: came 20 times in 1001 answers, wanted one in 50"];
+    let short = ["response times, shared: came 20 times in 1001 answers, wanted 1 in 50"];
     assert_eq!(missing(&tallies, SOME), short);
     assert_eq!(missing(&tallies, MANY), short);
 }

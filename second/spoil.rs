@@ -1,6 +1,6 @@
 //! What makes a drawn cabinet or its file wrong, or moves it to a limit of document 01.
 
-use crate::draw::Cabinet;
+use crate::draw::{is_late, Cabinet};
 use crate::file;
 use crate::random::Random;
 use crate::seal::seal;
@@ -49,6 +49,9 @@ pub fn spoil(random: &mut Random, cabinet: &mut Cabinet, asked: &[u8]) {
             11 => wrong_regions(random, cabinet, k),
             14 => clear(&mut cabinet.table),
             15 => late_deadline(&mut cabinet.table.records[k]),
+            16 if is_late(&cabinet.table) && !random.once_in(3) => {
+                no_instant(random, &mut cabinet.table.records[k])
+            }
             16 => short_deadline(&mut cabinet.table.records[k]),
             _ => at_a_limit(random, cabinet, k),
         }
@@ -73,11 +76,39 @@ pub fn wrong_n(random: &mut Random) -> u8 {
 }
 
 pub fn wrong_number(random: &mut Random, record: &mut Record) {
-    match random.from(0, 3) {
+    match random.from(0, 4) {
         0 => record.cost = random.one_of(&NO_TICKS),
         1 => record.period = random.one_of(&NO_TICKS),
         2 => record.deadline = random.one_of(&NO_TICKS),
+        3 => wrong_jitter(random, record),
         _ => record.name = random.one_of(&[128, 128, 255, 256, u32::MAX]),
+    }
+}
+
+/// A jitter of the period or more, also one that a deadline behind the period would let pass.
+fn wrong_jitter(random: &mut Random, record: &mut Record) {
+    let period = record.period;
+    let more = period.saturating_add(random.from(1, 1000));
+    if random.once_in(4) {
+        record.deadline = more.clamp(1, MOST_TICKS);
+        record.jitter = random.one_of(&[period, record.deadline - 1]).max(period);
+        return;
+    }
+    record.jitter = match random.from(0, 9) {
+        0 | 1 => period,
+        2..=4 => period.saturating_add(1),
+        5 => more,
+        6 => MOST_TICKS.max(period),
+        _ => u32::MAX,
+    };
+}
+
+/// Once in so many late tables some record's jitter is out of its range. A table without jitters stays
+/// as it is.
+pub fn wrong_jitter_once_in(times: u32, random: &mut Random, table: &mut Table) {
+    if is_late(table) && random.once_in(times) {
+        let k = random.place(table.n as usize);
+        wrong_jitter(random, &mut table.records[k]);
     }
 }
 
@@ -149,11 +180,65 @@ pub fn clear(table: &mut Table) {
 fn late_deadline(record: &mut Record) {
     record.period = record.period.min(MOST_TICKS - 1);
     record.deadline = record.period + 1;
+    keep_jitter(record);
 }
 
 /// A deadline just below the cost, so that the tolerance is below zero.
 fn short_deadline(record: &mut Record) {
     record.deadline = record.cost.saturating_sub(1).max(1);
+}
+
+/// A jitter that leaves no instant before the deadline, which comes below the period for it. A
+/// period of 1 has no such jitter, and the record stays as it is.
+fn no_instant(random: &mut Random, record: &mut Record) {
+    if record.period < 2 {
+        return;
+    }
+    record.deadline = record.deadline.clamp(1, record.period - 1);
+    let (due, most) = (record.deadline, record.period - 1);
+    let any = random.from(due, most);
+    record.jitter = random.one_of(&[due, due, due + 1, most, any]).min(most);
+}
+
+/// A tolerance below zero: a deadline, less the jitter, that is shorter than the cost, though some
+/// instant is left. A cost of 1 has none such, and the record stays as it is.
+fn below_zero(random: &mut Random, record: &mut Record) {
+    if record.cost < 2 || record.cost > record.period {
+        return;
+    }
+    let left = random.from(1, record.cost - 1);
+    if random.once_in(2) {
+        record.jitter = 0;
+        record.deadline = left;
+    } else {
+        record.deadline = record.deadline.clamp(left, record.period);
+        record.jitter = record.deadline - left;
+    }
+}
+
+/// No deadline above its period; and of two records one without an instant and the other below zero,
+/// either of them the first, sometimes beside a third one without an instant.
+pub fn two_of_16(random: &mut Random, table: &mut Table) {
+    let n = table.n as usize;
+    for record in &mut table.records[..n] {
+        record.deadline = record.deadline.min(record.period);
+    }
+    if n < 2 {
+        return;
+    }
+    let one = random.place(n);
+    let other = (one + 1 + random.place(n - 1)) % n;
+    let third = random.place(n);
+    no_instant(random, &mut table.records[one]);
+    if third != other && random.once_in(2) {
+        no_instant(random, &mut table.records[third]);
+    }
+    below_zero(random, &mut table.records[other]);
+}
+
+/// Brings a jitter back into its range where a change left the period too short for it.
+fn keep_jitter(record: &mut Record) {
+    record.jitter = record.jitter.min(record.period.saturating_sub(1));
 }
 
 /// A change that leaves every number inside its range.
@@ -164,11 +249,13 @@ fn at_a_limit(random: &mut Random, cabinet: &mut Cabinet, k: usize) {
         0 => record.cost = edge,
         1 => record.period = edge,
         2 => record.deadline = edge,
-        3 | 4 => record.deadline = record.cost,
+        // Just as long as the task takes by itself, when it is late.
+        3 | 4 => record.deadline = record.cost.saturating_add(record.jitter).min(MOST_TICKS),
         5 => record.deadline = record.period,
         6 => record.name = random.one_of(&[0, 63, 64, MOST_NAME_NUMBER]),
-        _ => unnamed_catalogue_word(random, cabinet),
+        _ => return unnamed_catalogue_word(random, cabinet),
     }
+    keep_jitter(record);
 }
 
 /// A bad word behind the last of the catalogue, where no record names it.
@@ -193,6 +280,7 @@ pub fn past_the_last(random: &mut Random, table: &mut Table) {
         first: random.one_of(&EDGES),
         count: random.one_of(&EDGES),
         name: random.one_of(&EDGES),
+        jitter: random.one_of(&EDGES),
     };
 }
 

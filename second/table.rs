@@ -1,5 +1,5 @@
 //! The table of one cabinet, and the ranges of document 01, "Numbers a table may hold", with n up
-//! to 15 by document 02, item 6.
+//! to 15 by document 02, item 6, and a jitter to each task by item 8.
 
 pub const MOST_TASKS: usize = 15;
 pub const MOST_REGION_WORDS: usize = 100;
@@ -57,6 +57,8 @@ pub struct Record {
     pub first: u32,
     pub count: u32,
     pub name: u32,
+    /// By how much a job may come late, J (document 02, item 8).
+    pub jitter: u32,
 }
 
 /// A table of n records. Records past n are not looked at; the reader leaves them zero.

@@ -7,6 +7,7 @@ mod blocked;
 mod brute;
 mod cases;
 mod files;
+mod jitter;
 mod list;
 mod making;
 mod reach;

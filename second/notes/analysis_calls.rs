@@ -10,7 +10,7 @@ const HALF_AS_OFTEN: u64 = AIMED_AT / 2;
 pub fn of_times(tally: &mut Tally, mut body: Body, answer: &Answer) -> Option<()> {
     let table = body.table()?;
     table_faults(&table, None).note_meetings(tally, 3, answer);
-    note_table(tally, &table, answer);
+    note_table(tally, 3, &table, answer);
     note_counts(tally, table.n, None, answer);
     let responses = responses_of(answer, &table)?;
     let times: Vec<Option<u64>> = responses
@@ -36,6 +36,7 @@ pub fn of_times(tally: &mut Tally, mut body: Body, answer: &Answer) -> Option<()
     );
     tally.note("late by a tick", any(&|i, r| r == tasks.deadline[i] + 1));
     tally.note("a time of the whole horizon", any(&|_, r| r == 1_000_000));
+    tally.note("a time above the horizon", any(&|_, r| r > 1_000_000));
     let by = |what: fn(u64) -> bool| any(&|i, _| what(analysis::largest_blocker(&tasks, i)));
     tally.note("not blocked", by(|cost| cost == 0));
     tally.note("blocked by a cost of 1", by(|cost| cost == 1));
@@ -49,7 +50,46 @@ pub fn of_times(tally: &mut Tally, mut body: Body, answer: &Answer) -> Option<()
     tally.note("an arrival at the start, blocked", arrival);
     note_other_rules(tally, &tasks, &times);
     note_worst_jobs(tally, &tasks, &responses);
+    note_late(tally, &tasks, &responses);
     Some(())
+}
+
+/// What response times reach by jitters, and which rules that document 02, item 8, shuts out would
+/// answer otherwise.
+fn note_late(tally: &mut Tally, tasks: &Tasks, responses: &[Option<Response>]) {
+    let late: Vec<usize> = (0..responses.len())
+        .filter(|i| counts_late(tasks, *i))
+        .collect();
+    for (what, rule) in OF_JITTERS {
+        let other = late
+            .iter()
+            .any(|i| response_by(tasks, *i, rule) != responses[*i]);
+        tally.note(&format!("another answer by {what}"), other);
+    }
+    let any = |what: &dyn Fn(usize, &Response) -> bool| {
+        let mut late = late.iter();
+        late.any(|i| responses[*i].as_ref().is_some_and(|r| what(*i, r)))
+    };
+    tally.note_often(AIMED_AT, "a time by a jitter", any(&|_, _| true));
+    let beyond = late.iter().any(|i| responses[*i].is_none());
+    tally.note("beyond by a jitter or beside one", beyond);
+    tally.note_often(
+        HALF_AS_OFTEN,
+        "a later job is the worst, with a jitter",
+        any(&|_, r| r.job > 0),
+    );
+    let own = |i: usize| tasks.jitter[i] > 0;
+    tally.note(
+        "a later job of a late task is the worst",
+        any(&|i, r| r.job > 0 && own(i)),
+    );
+    tally.note("jobs that a jitter adds", any(&|i, _| adds_jobs(tasks, i)));
+}
+
+/// Whether there are more jobs by J(i) in their count.
+fn adds_jobs(tasks: &Tasks, i: usize) -> bool {
+    let l = analysis::active_period(tasks, i, analysis::blocking(tasks, i));
+    l.is_some_and(|l| analysis::arrived(tasks, i, l) > l.div_ceil(tasks.period[i]))
 }
 
 /// The responses that were answered, none where the call was turned away. `None` where the line is
@@ -89,7 +129,7 @@ fn note_other_rules(tally: &mut Tally, tasks: &Tasks, times: &[Option<u64>]) {
         ("the rule before", BEFORE),
     ] {
         let mut blocked = (0..times.len()).filter(|i| analysis::largest_blocker(tasks, *i) > 0);
-        let time = |i| response_time_by(tasks, i, rule).map(|time| time as u64);
+        let time = |i| response_by(tasks, i, rule).map(|response| response.time as u64);
         let other = blocked.any(|i| time(i) != times[i]);
         tally.note(&format!("another time by {what}"), other);
     }
@@ -120,7 +160,7 @@ impl Worst {
 }
 
 /// One answer in so many has a worst job above 0.
-const ONE_IN: u64 = 50;
+const LATER: (u64, u64) = (1, 50);
 
 /// The worst jobs (document 02, item 4), and which rules that are wrong would name others.
 fn note_worst_jobs(tally: &mut Tally, tasks: &Tasks, responses: &[Option<Response>]) {
@@ -155,7 +195,7 @@ fn note_worst_jobs(tally: &mut Tally, tasks: &Tasks, responses: &[Option<Respons
 fn note_later(tally: &mut Tally, tasks: &Tasks, responses: &[Option<Response>], worst: &[Worst]) {
     let any = |what: &dyn Fn(&Worst) -> bool| worst.iter().any(what);
     let later = any(&Worst::is_later);
-    tally.note_share(ONE_IN, "a worst job above 0", later);
+    tally.note_share(LATER, "a worst job above 0", later);
     tally.note_often(AIMED_AT, "a later job is the worst", later);
     let many = tasks.n >= 9;
     tally.note_often(
@@ -265,20 +305,23 @@ fn starts_at_an_arrival(tasks: &Tasks, i: usize) -> bool {
         .collect();
     let mut start: u64 = 0;
     loop {
-        let jobs = |j: usize| start.div_ceil(tasks.period[j]).max(1);
+        let jobs = |j: usize| analysis::arrived(tasks, j, start).max(1);
         let sum = higher.iter().map(|j| jobs(*j) * tasks.cost[*j]).sum();
         if sum == start || sum > MOST_TICKS as u64 {
             break;
         }
         start = sum;
     }
-    start > 0 && higher.iter().any(|j| start % tasks.period[*j] == 0)
+    let arrives = |j: usize| (start + tasks.jitter[j]) % tasks.period[j] == 0;
+    start > 0 && higher.iter().any(|j| arrives(*j))
 }
 
 pub fn of_tolerances(tally: &mut Tally, mut body: Body, answer: &Answer) -> Option<()> {
     let table = body.table()?;
-    table_faults(&table, None).note_meetings(tally, 4, answer);
-    note_table(tally, &table, answer);
+    let mut faults = table_faults(&table, None);
+    faults.add(16, held(&table).tasks().iter().any(no_instant));
+    faults.note_meetings(tally, 4, answer);
+    note_table(tally, 4, &table, answer);
     note_counts(tally, table.n, None, answer);
     let ticks = ticks_of(answer);
     tally.note("a tolerance below zero", ticks.iter().any(|t| *t < 0));
@@ -286,7 +329,141 @@ pub fn of_tolerances(tally: &mut Tally, mut body: Body, answer: &Answer) -> Opti
     tally.note("a tolerance of 0", ticks.contains(&0));
     tally.note("a tolerance of 1", ticks.contains(&1));
     tally.note("a tolerance above zero", ticks.iter().any(|t| *t > 0));
+    let late = late_tolerances(&table, answer);
+    note_16(tally, &late, answer);
+    for (what, rule) in OF_TOLERANCES {
+        let line = tolerances_line(&late.by(rule));
+        tally.note(&format!("another answer by {what}"), late.tells(&line));
+    }
+    let below_too = late.right.iter().position(is_16).map(refused_16);
+    let other = below_too.is_some_and(|line| late.tells(&line));
+    tally.note("another answer by 16 of tolerances below zero too", other);
     Some(())
+}
+
+/// A task whose jitter leaves it no t.
+fn no_instant(task: &Record) -> bool {
+    task.jitter >= task.deadline
+}
+
+/// No t, or a tolerance below zero.
+fn is_16(tolerance: &Option<i64>) -> bool {
+    tolerance.is_none_or(|tolerance| tolerance < 0)
+}
+
+fn refused_16(place: usize) -> String {
+    format!("refused 16 record {}", place + 1)
+}
+
+/// The tasks of a table with a jitter that came as far as its tolerances, these by the right rule,
+/// and what was answered; no tasks otherwise.
+struct LateTolerances<'a> {
+    tasks: Tasks,
+    right: Vec<Option<i64>>,
+    line: &'a str,
+}
+
+fn late_tolerances<'a>(table: &Table, answer: &Answer<'a>) -> LateTolerances<'a> {
+    let mut tasks = Tasks::of(&held(table));
+    if !is_late(table) || !(answer.taken() || answer.refused(16)) {
+        tasks.n = 0;
+    }
+    LateTolerances {
+        right: tolerances_by(&tasks, RIGHT_TOLERANCE),
+        tasks,
+        line: answer.line,
+    }
+}
+
+impl LateTolerances<'_> {
+    fn by(&self, rule: ToleranceRule) -> Vec<Option<i64>> {
+        tolerances_by(&self.tasks, rule)
+    }
+
+    /// Whether this line is another than the answer.
+    fn tells(&self, line: &str) -> bool {
+        self.tasks.n > 0 && line != self.line
+    }
+
+    /// The first that has no t, and the first below zero.
+    fn firsts(&self) -> (Option<usize>, Option<usize>) {
+        let none = self.right.iter().position(|tolerance| tolerance.is_none());
+        let below = self.right.iter().position(|t| t.is_some_and(|t| t < 0));
+        (none, below)
+    }
+}
+
+/// What tolerances answer where these come out.
+fn tolerances_line(tolerances: &[Option<i64>]) -> String {
+    if let Some(place) = tolerances.iter().position(|tolerance| tolerance.is_none()) {
+        return refused_16(place);
+    }
+    let numbers = tolerances.iter().flatten();
+    let words: Vec<String> = numbers.map(|tolerance| format!(" {tolerance}")).collect();
+    format!("tolerances{}", words.concat())
+}
+
+/// The lengths where these tolerances come out, or the place of the record that 16 names.
+fn lengths_by(tasks: &Tasks, tolerances: &[Option<i64>]) -> Result<Vec<i64>, usize> {
+    if let Some(place) = tolerances.iter().position(is_16) {
+        return Err(place);
+    }
+    let length = |k: usize| {
+        let above = (0..tasks.n).filter(|i| tasks.priority[*i] < tasks.priority[k]);
+        let least = above.filter_map(|i| tolerances[i]).min();
+        let cost = tasks.cost[k] as i64;
+        least.map_or(cost, |least| cost.min(least + 1))
+    };
+    Ok((0..tasks.n).map(length).collect())
+}
+
+/// What a call that asks 16 of a tolerance below zero too answers, where these tolerances come out.
+fn line_by(tasks: &Tasks, tolerances: &[Option<i64>], line: impl Fn(&[i64]) -> String) -> String {
+    match lengths_by(tasks, tolerances) {
+        Ok(lengths) => line(&lengths),
+        Err(place) => refused_16(place),
+    }
+}
+
+fn lengths_line(lengths: &[i64]) -> String {
+    let words: Vec<String> = lengths.iter().map(|length| format!(" {length}")).collect();
+    format!("lengths{}", words.concat())
+}
+
+/// Which answers of lengths and of the region check tell rules apart that item 8 shuts out.
+fn note_other_tolerances(
+    tally: &mut Tally,
+    late: &LateTolerances,
+    line: impl Fn(&[i64]) -> String,
+) {
+    for (what, rule) in OF_TOLERANCES {
+        let other = line_by(&late.tasks, &late.by(rule), &line);
+        tally.note(&format!("another answer by {what}"), late.tells(&other));
+    }
+    let (none, _) = late.firsts();
+    let other = none.is_some_and(|place| late.tells(&refused_16(place)));
+    tally.note("another answer by 16 naming a record of no t first", other);
+}
+
+/// The two ways to 16 beside each other. Tolerances and the calls that ask 16 of those below zero
+/// too name another record where the one below zero is the first.
+fn note_16(tally: &mut Tally, late: &LateTolerances, answer: &Answer) {
+    let (none, below) = late.firsts();
+    let refused = answer.refused(16);
+    tally.note("16 by no t", refused && none.is_some());
+    tally.note(
+        "16 by no t alone",
+        refused && none.is_some() && below.is_none(),
+    );
+    let both = refused && none.is_some() && below.is_some();
+    tally.note("16, no t before one below zero", both && none < below);
+    tally.note("16, one below zero before no t", both && below < none);
+    let count = late.right.iter().filter(|tolerance| tolerance.is_none());
+    tally.note("16, no t twice", refused && count.count() > 1);
+    let tasks = &late.tasks;
+    let one = |i: usize| tasks.jitter[i] > 0 && tasks.deadline[i] == tasks.jitter[i] + 1;
+    let single = answer.taken() && (0..tasks.n).any(one);
+    tally.note("a tolerance of a single t", single);
 }
 
 /// The numbers answered; none where the call was turned away.
@@ -302,8 +479,10 @@ fn ticks_of(answer: &Answer) -> Vec<i64> {
 
 pub fn of_lengths(tally: &mut Tally, mut body: Body, answer: &Answer) -> Option<()> {
     let table = body.table()?;
-    table_faults(&table, None).note_meetings(tally, 5, answer);
-    note_table(tally, &table, answer);
+    let mut faults = table_faults(&table, None);
+    faults.add(16, held(&table).tasks().iter().any(too_short));
+    faults.note_meetings(tally, 5, answer);
+    note_table(tally, 5, &table, answer);
     note_counts(tally, table.n, None, answer);
     let answered = |sizes: RangeInclusive<u8>| answer.taken() && sizes.contains(&table.n);
     tally.note_often(HALF_AS_OFTEN, "answered at n 6 to 8", answered(6..=8));
@@ -317,8 +496,16 @@ pub fn of_lengths(tally: &mut Tally, mut body: Body, answer: &Answer) -> Option<
     tally.note("a length below the cost", places.any(|(k, t)| *t < cost(k)));
     note_least_tolerances(tally, &seen, &ticks);
     note_below_zero(tally, &table, answer);
+    let late = late_tolerances(&table, answer);
+    note_16(tally, &late, answer);
+    note_other_tolerances(tally, &late, lengths_line);
     // A higher task can always bear a region of a single tick.
     ticks.iter().all(|length| *length >= 1).then_some(())
+}
+
+/// A task that doesn't fit before its deadline even by itself.
+fn too_short(task: &Record) -> bool {
+    task.cost as u64 + task.jitter as u64 > task.deadline as u64
 }
 
 /// How the least tolerance above a task lies to its cost, and which length comes of that.
@@ -365,12 +552,12 @@ fn least_above(table: &Table) -> Vec<Option<i64>> {
 /// Which record a refusal 16 names.
 fn note_below_zero(tally: &mut Tally, table: &Table, answer: &Answer) {
     let tolerances = if answer.refused(16) {
-        lengths::tolerances(table).unwrap_or_default()
+        tolerances_by(&Tasks::of(table), RIGHT_TOLERANCE)
     } else {
         Vec::new()
     };
     let below: Vec<usize> = (0..tolerances.len())
-        .filter(|k| tolerances[*k] < 0)
+        .filter(|k| is_16(&tolerances[*k]))
         .collect();
     let first = below.first().copied();
     tally.note("16 names record 1", first == Some(0));
@@ -385,13 +572,21 @@ pub fn of_region_check(tally: &mut Tally, mut body: Body, answer: &Answer) -> Op
     let table = body.table()?;
     let own = body.words()?;
     let catalogue = body.words()?;
-    table_faults(&table, Some((&own, &catalogue))).note_meetings(tally, 6, answer);
-    note_table(tally, &table, answer);
+    let mut faults = table_faults(&table, Some((&own, &catalogue)));
+    faults.add(16, held(&table).tasks().iter().any(too_short));
+    faults.note_meetings(tally, 6, answer);
+    note_table(tally, 6, &table, answer);
     note_counts(tally, table.n, Some(own.len()), answer);
     note_words(tally, &own, answer);
     note_lists(tally, &table, &own, &catalogue, answer);
     note_places(tally, &table, (&own, &catalogue), answer);
     note_below_zero(tally, &table, answer);
+    let late = late_tolerances(&table, answer);
+    note_16(tally, &late, answer);
+    let seen = held(&table);
+    note_other_tolerances(tally, &late, |lengths| {
+        fit_line(&seen, &own, &catalogue, lengths)
+    });
     for (wanted, sizes) in [(HALF_AS_OFTEN, 6..=8), (AIMED_AT, 9..=15)] {
         let named = format!("at n {} to {}", sizes.start(), sizes.end());
         let large = answer.taken() && sizes.contains(&table.n);
@@ -409,6 +604,16 @@ pub fn of_region_check(tally: &mut Tally, mut body: Body, answer: &Answer) -> Op
         tally.note(&what, answer.line == said && above == Some(more));
     }
     Some(())
+}
+
+/// What the region check answers where these are the lengths.
+fn fit_line(table: &Table, own: &[u32], catalogue: &[u32], lengths: &[i64]) -> String {
+    let fits = |(task, length): (&Record, &i64)| {
+        let regions = checks::regions(task, own, catalogue).unwrap_or(&[]);
+        regions.iter().all(|word| *word as i64 <= *length)
+    };
+    let fit = table.tasks().iter().zip(lengths).all(fits);
+    String::from(if fit { "fits" } else { "unfit" })
 }
 
 /// By how much the longest region of a task lies above the least tolerance of the higher ones, the

@@ -14,7 +14,16 @@ pub fn of_reading(tally: &mut Tally, mut body: Body, answer: &Answer) -> Option<
     note_file(tally, plate, &catalogue, file, &faults, answer);
     note_room(tally, room, m, answer);
     tally.note("no room for no words", answer.taken() && room == 0);
-    Some(())
+    (!answer.taken() || reads_as_0(answer)).then_some(())
+}
+
+/// Ten numbers of each record behind n, the last of them a jitter of 0: an edition 1 file has none.
+fn reads_as_0(answer: &Answer) -> bool {
+    let mut words = answer.words();
+    let n: Option<usize> = words.next().and_then(|n| n.parse().ok());
+    let words: Vec<&str> = words.collect();
+    let jitters = words.chunks(10).all(|record| record.last() == Some(&"0"));
+    n.is_some_and(|n| words.len() == 10 * n) && jitters
 }
 
 pub fn of_record(tally: &mut Tally, mut body: Body, answer: &Answer) -> Option<()> {
@@ -166,14 +175,21 @@ pub fn of_writing(tally: &mut Tally, mut body: Body, answer: &Answer) -> Option<
     faults.add(18, !zeros.is_empty());
     faults.add(9, plate.cabinet > MOST_CABINET);
     faults.add(12, room < needed);
+    let late: Vec<usize> = (0..held(&table).n as usize)
+        .filter(|k| table.records[*k].jitter > 0)
+        .collect();
+    faults.add(19, !late.is_empty());
     faults.note_meetings(tally, 2, answer);
+    note_19(tally, held(&table).n as usize, &late, answer);
     for (what, blank) in blank_plates() {
         tally.note(what, answer.refused(18) && zeros == blank);
     }
     let line = answer.refused(18) && plate.cabinet > MOST_CABINET;
     tally.note_often(SELDOM, "line 0 of a cabinet above 24 bits", line);
     note_plate(tally, plate, answer);
-    note_table(tally, &table, answer);
+    note_table(tally, 2, &table, answer);
+    let in_range = plate.cabinet <= MOST_CABINET;
+    note_bad_jitters(tally, &table, answer.refused(9) && in_range);
     note_counts(tally, table.n, Some(own.len()), answer);
     note_words(tally, &own, answer);
     note_lists(tally, &table, &own, &catalogue, answer);
@@ -182,4 +198,15 @@ pub fn of_writing(tally: &mut Tally, mut body: Body, answer: &Answer) -> Option<
     let wide = answer.refused(9) && plate.cabinet == MOST_CABINET + 1;
     tally.note("a cabinet of 2^24 turned away", wide);
     Some(())
+}
+
+/// Which records a writing turned away by 19 would lose the jitter of: of several a single one.
+fn note_19(tally: &mut Tally, n: usize, late: &[usize], answer: &Answer) {
+    let one = answer.refused(19) && n > 1 && late.len() == 1;
+    tally.note("19 by record 1 alone", one && late[0] == 0);
+    tally.note("19 by record n alone", one && late[0] == n - 1);
+    tally.note(
+        "19 by several records",
+        answer.refused(19) && late.len() > 1,
+    );
 }

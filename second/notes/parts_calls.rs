@@ -12,6 +12,7 @@ pub fn of_regions(tally: &mut Tally, mut body: Body, answer: &Answer) -> Option<
     faults.add(13, number == 0 || number > table.n as u16);
     faults.note_meetings(tally, 10, answer);
     note_counts(tally, table.n, Some(own.len()), answer);
+    note_jitters(tally, 10, &table, answer);
     note_record_number(tally, number, table.n, answer);
     // The record asked for stands alone, as in a table of one.
     let mut alone = Table::default();
@@ -30,6 +31,8 @@ pub fn of_regions(tally: &mut Tally, mut body: Body, answer: &Answer) -> Option<
     tally.note("answered beside a bad own word", answer.taken() && bad_word);
     let numbers = answer.taken() && numbers_wrong(&seen);
     tally.note("answered for a table with a bad number", numbers);
+    let jitter = numbers && !numbers_wrong(&without_jitters(&seen));
+    tally.note("answered for a table with a bad jitter alone", jitter);
     Some(())
 }
 

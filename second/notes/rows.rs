@@ -1,6 +1,6 @@
 //! What the first row and the next row reach.
 
-use super::other_rules::{passes_by, WHOLE};
+use super::other_rules::{passes_by, NOWHERE, PASSING_LESS, PASSING_MORE, WHOLE};
 use super::*;
 
 pub fn of_first_row(tally: &mut Tally, mut body: Body, answer: &Answer) -> Option<()> {
@@ -10,9 +10,10 @@ pub fn of_first_row(tally: &mut Tally, mut body: Body, answer: &Answer) -> Optio
     let mut faults = table_faults(&table, None);
     faults.add(12, room < 2 * n);
     faults.note_meetings(tally, 7, answer);
-    note_listing(tally, &table, room, answer);
+    note_listing(tally, 7, &table, room, answer);
     let row = answer.row(n);
     note_whole_blocking(tally, &table, &row);
+    note_late_rows(tally, &table, &[], answer);
     let (order, thresholds) = row.split_at(row.len() / 2);
     let first = order.is_sorted() && thresholds.iter().all(|threshold| *threshold == 1);
     note_later_jobs(tally, &table, &row, &[]);
@@ -40,9 +41,10 @@ pub fn of_next_row(tally: &mut Tally, mut body: Body, answer: &Answer) -> Option
     faults.add(12, room < 2 * n);
     faults.add(17, Row::from_numbers(n, given).is_none());
     faults.note_meetings(tally, 8, answer);
-    note_listing(tally, &table, room, answer);
+    note_listing(tally, 8, &table, room, answer);
     let row = answer.row(n);
     note_whole_blocking(tally, &table, &row);
+    note_late_rows(tally, &table, given, answer);
     let mut before = row.clone();
     step_back(&mut before);
     let over = !row.is_empty() && before != given;
@@ -87,7 +89,17 @@ const ROWS_BEFORE: usize = 30;
 fn note_later_jobs(tally: &mut Tally, table: &Table, row: &[u8], given: &[u8]) {
     let passes = !row.is_empty() && has_later_worst(&tasks_in(table, row));
     tally.note("a row with a later worst job", passes);
-    let mut fails = false;
+    let over = passed_over(row, given);
+    let fails = over
+        .iter()
+        .any(|before| first_jobs_keep(&tasks_in(table, before)));
+    tally.note_often(SELDOM, "a row passed over for a later job alone", fails);
+}
+
+/// The rows between the given one and the one found, as many as are looked at. None where none was
+/// found.
+fn passed_over(row: &[u8], given: &[u8]) -> Vec<Vec<u8>> {
+    let mut rows = Vec::new();
     let mut after = row.to_vec();
     for _ in 0..ROWS_BEFORE {
         let mut before = after.clone();
@@ -96,10 +108,55 @@ fn note_later_jobs(tally: &mut Tally, table: &Table, row: &[u8], given: &[u8]) {
         if before == after || before == given {
             break;
         }
-        fails |= first_jobs_keep(&tasks_in(table, &before));
-        after = before;
+        after = before.clone();
+        rows.push(before);
     }
-    tally.note_often(SELDOM, "a row passed over for a later job alone", fails);
+    rows
+}
+
+/// Rows that a rule which document 02, item 8, shuts out would have found before the one that was, or
+/// before the end, or would have passed over.
+fn note_late_rows(tally: &mut Tally, table: &Table, given: &[u8], answer: &Answer) {
+    let n = held(table).n as usize;
+    let row = answer.row(n);
+    // A row that fails without any jitter fails with some of them.
+    let by_jitter: Vec<Tasks> = late_rows_over(table, &row, given, answer)
+        .iter()
+        .map(|before| tasks_in(table, before))
+        .filter(|tasks| passes_by(tasks, NOWHERE))
+        .collect();
+    tally.note("a row passed over for jitters alone", !by_jitter.is_empty());
+    let many = !by_jitter.is_empty() && n >= 9;
+    let what = "a row passed over for jitters alone at n 9 to 15";
+    tally.note_often(SELDOM, what, many);
+    for (what, rule) in PASSING_MORE {
+        let found = by_jitter.iter().any(|tasks| passes_by(tasks, rule));
+        let what = format!("a row passed over that passes by {what}");
+        tally.note_often(SELDOM, &what, found);
+    }
+    for (what, rule) in PASSING_LESS {
+        let found = !row.is_empty() && is_late(table);
+        let fails = found && !passes_by(&tasks_in(table, &row), rule);
+        tally.note_often(SELDOM, &format!("a row that fails by {what}"), fails);
+    }
+}
+
+/// Some rows of a table with a jitter that were passed over: the last ones before the row that was
+/// found, or before the end.
+fn late_rows_over(table: &Table, row: &[u8], given: &[u8], answer: &Answer) -> Vec<Vec<u8>> {
+    if !answer.taken() || !is_late(table) {
+        return Vec::new();
+    }
+    if !row.is_empty() {
+        return passed_over(row, given);
+    }
+    let last = last_row(table.n as usize);
+    if last == given {
+        return Vec::new();
+    }
+    let mut rows = passed_over(&last, given);
+    rows.push(last);
+    rows
 }
 
 fn has_later_worst(tasks: &Tasks) -> bool {
@@ -115,9 +172,9 @@ fn first_jobs_keep(tasks: &Tasks) -> bool {
     })
 }
 
-fn note_listing(tally: &mut Tally, table: &Table, room: usize, answer: &Answer) {
+fn note_listing(tally: &mut Tally, kind: u8, table: &Table, room: usize, answer: &Answer) {
     let n = held(table).n as usize;
-    note_table(tally, table, answer);
+    note_table(tally, kind, table, answer);
     note_counts(tally, table.n, None, answer);
     note_room(tally, room, 2 * n, answer);
     let own = answer.taken() && assignment_wrong(&held(table));

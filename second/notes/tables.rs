@@ -10,8 +10,7 @@ pub fn held(table: &Table) -> Table {
     }
 }
 
-/// Which of 5, 9, 10, 11, 14, 15 and 16 apply to a table. Of the deadlines that make a tolerance
-/// negative only those below the cost are seen here.
+/// Which of 5, 9, 10, 11, 14 and 15 apply to a table.
 pub fn table_faults(table: &Table, lists: Option<(&[u32], &[u32])>) -> Faults {
     let seen = &held(table);
     let mut faults = Faults(Vec::new());
@@ -24,15 +23,18 @@ pub fn table_faults(table: &Table, lists: Option<(&[u32], &[u32])>) -> Faults {
     }
     faults.add(14, unassigned(seen));
     faults.add(15, deadline_above_period(seen));
-    let mut tasks = seen.tasks().iter();
-    faults.add(16, tasks.any(|task| task.cost > task.deadline));
     faults
 }
 
-/// What every call notes of a table that it is handed.
-pub fn note_table(tally: &mut Tally, table: &Table, answer: &Answer) {
+/// What every call but that of regions notes of a table that it is handed.
+pub fn note_table(tally: &mut Tally, kind: u8, table: &Table, answer: &Answer) {
     let seen = held(table);
     note_numbers(tally, &seen, answer);
+    note_jitters(tally, kind, table, answer);
+    // Writing asks 9 of a cabinet too, and sees to that by itself.
+    if kind != 2 {
+        note_bad_jitters(tally, table, answer.refused(9));
+    }
     let name = |number| seen.tasks().iter().any(|task| task.name == number);
     let past = answer.refused(9) && name(MOST_NAME_NUMBER + 1);
     tally.note("name 128 turned away", past);

@@ -46,6 +46,7 @@ impl Body {
                 .four(record.threshold)
                 .four(record.source.bit());
             self = self.four(record.first).four(record.count).four(record.name);
+            self = self.four(record.jitter);
         }
         self
     }
@@ -80,7 +81,7 @@ fn two_jobs() -> (Table, Vec<u32>) {
     (table, own)
 }
 
-const TABLE_LINE: &str = "table 2 2 5 5 1 1 0 0 1 0 4 10 10 2 2 0 1 1 64";
+const TABLE_LINE: &str = "table 2 2 5 5 1 1 0 0 1 0 0 4 10 10 2 2 0 1 1 64 0";
 const RECORD_2: &str = "record 000040000a0000a220103000";
 
 #[test]
@@ -215,12 +216,32 @@ fn any_source_but_0_is_the_catalogue() {
     let (table, own) = two_jobs();
     let mut body = start().two(2).table(&table).words(&own).words(&[0, 1, 3]);
     // The source of record 2 is its sixth word.
-    let source = 2 + 1 + 36 + 20;
+    let source = 2 + 1 + 40 + 20;
     body.0[source] = 1;
     assert_eq!(answer(10, body.clone()), "refused 11");
     let count = source + 8;
     body.0[count + 3] = 2;
     assert_eq!(answer(10, body), "regions 1 3");
+}
+
+/// Document 02, item 8: the tenth word of a record. With J 3 the first takes 5 ticks in place of 2,
+/// and holds the second up to 10 in place of 8; with J 1 the second takes 1 more.
+#[test]
+fn the_tenth_word_is_the_jitter() {
+    let (table, _) = two_jobs();
+    let mut body = start().table(&table);
+    assert_eq!(body.0.len(), 1 + 15 * 40);
+    assert_eq!(answer(3, body.clone()), "times 2 8 jobs 0 0");
+    body.0[1 + 36 + 3] = 3;
+    assert_eq!(answer(3, body.clone()), "times 5 10 jobs 0 0");
+    body.0[1 + 40 + 36 + 3] = 1;
+    assert_eq!(answer(3, body.clone()), "times 5 11 jobs 0 0");
+    // All four bytes count.
+    body.0[1 + 36] = 1;
+    assert_eq!(answer(3, body.clone()), "refused 9");
+    // What a table was before it, nine words a record, is too short.
+    body.0.truncate(1 + 15 * 36);
+    assert_eq!(answer(3, body), "bad request");
 }
 
 #[test]

@@ -1,6 +1,7 @@
 //! The analysis tried out value by value: every L, S, F, t and length one after the other, straight
 //! by the equations of document 01, "The analysis", with the changes of document 02, item 5, in
-//! signed numbers.
+//! signed numbers. No jitter stands in them: that with every J at 0 the answers are those of before
+//! is what these tests say of item 8. Tables with jitter stand in jitter.rs.
 
 use super::*;
 use crate::analysis::*;
@@ -330,9 +331,12 @@ fn no_job_starts_at_an_arrival() {
     );
 }
 
+/// What the tasks of a table come to.
+pub type Responses = dyn Fn(&Table) -> Vec<Option<Response>>;
+
 /// Every run of 2n numbers from 0 to n, in order, kept if it is a well-formed assignment that
-/// passes value by value.
-fn rows_number_by_number(table: &Table) -> Vec<Vec<u8>> {
+/// passes by these responses.
+pub fn rows_number_by_number(table: &Table, responses: &Responses) -> Vec<Vec<u8>> {
     let n = table.n as usize;
     let runs = (n + 1).pow(2 * n as u32);
     let numbers = |run: usize| -> Vec<u8> {
@@ -343,11 +347,11 @@ fn rows_number_by_number(table: &Table) -> Vec<Vec<u8>> {
     };
     (0..runs)
         .map(numbers)
-        .filter(|row| row_passes(table, row))
+        .filter(|row| row_passes(table, row, responses))
         .collect()
 }
 
-fn row_passes(table: &Table, row: &[u8]) -> bool {
+fn row_passes(table: &Table, row: &[u8], responses: &Responses) -> bool {
     let n = table.n as usize;
     let mut table = *table;
     for record in &mut table.records {
@@ -381,7 +385,7 @@ fn rows_of_small_tables() {
     for run in 0..30 {
         let n = run % 3 + 1;
         let table = small_table(&mut dice, n);
-        let rows = rows_number_by_number(&table);
+        let rows = rows_number_by_number(&table, &responses);
         let mut walk = Walk::from_start(&table);
         let walked: Vec<Vec<u8>> = std::iter::from_fn(|| walk.next_passing())
             .map(|row| row.numbers().to_vec())

@@ -1,7 +1,8 @@
 //! The made streams, and the count of what they reach.
 
 use super::*;
-use crate::draw::{any_row, last_row, step_back};
+use crate::draw::{any_row, cabinet, draw_jitters, ease_jitters};
+use crate::draw::{is_late, last_row, step_back};
 use crate::listing::Walk;
 use crate::random::Random;
 use crate::{ask, generate, listing, reach, Stop};
@@ -48,6 +49,16 @@ fn a_missing_outcome_is_named() {
     for (kind, begin, line) in [
         (1, "refused 8", "read, refused 8: came 0 times, wanted 1"),
         (2, "refused 18", "write, refused 18: came 0 times, wanted 1"),
+        (
+            2,
+            "refused 19",
+            "write, 19 before 12: came 0 times, wanted 1",
+        ),
+        (
+            4,
+            "refused 16",
+            "tolerances, 16, one below zero before no t: came 0 times, wanted 1",
+        ),
         (
             9,
             "refused 18",
@@ -140,6 +151,93 @@ fn too_few_later_jobs_are_named() {
     let said = missing(&whole, &answers(&whole)).expect("too few");
     let line = "response times, a worst job above 0: came 10 times in ";
     assert!(said.lines().any(|said| said.starts_with(line)), "{said}");
+}
+
+/// A file of edition 1 has no place for a jitter: one that is read is 0, and the line has a place for
+/// it.
+#[test]
+fn a_jitter_that_is_read_fails() {
+    let (table, own) = two_jobs();
+    let file = file_of(&table, &own, &[]);
+    let mut body = Vec::new();
+    generate::put_plate(&mut body, PLATE);
+    generate::put_two(&mut body, 2);
+    generate::put_words(&mut body, &[]);
+    generate::put_bytes(&mut body, &file);
+    let stream = [&[1][..], &(body.len() as u16).to_be_bytes(), &body].concat();
+    let right = "table 2 2 5 5 1 1 0 0 1 0 0 4 10 10 2 2 0 1 1 0 0 out 2 4";
+    assert_eq!(answers(&stream), format!("{right}\n").as_bytes());
+    assert_eq!(missing(&stream, right.as_bytes()), None);
+    for wrong in [
+        "table 2 2 5 5 1 1 0 0 1 0 0 4 10 10 2 2 0 1 1 0 1 out 2 4",
+        "table 2 2 5 5 1 1 0 0 1 0 3 4 10 10 2 2 0 1 1 0 0 out 2 4",
+        "table 2 2 5 5 1 1 0 0 1 0 4 10 10 2 2 0 1 1 0 out 2 4",
+    ] {
+        let said = missing(&stream, wrong.as_bytes()).expect("a failure");
+        assert_eq!(said, format!("request 1: read can't answer `{wrong}`"));
+    }
+}
+
+/// Of a stream in which few tables of response times have a jitter, or few have none, that is said.
+#[test]
+fn too_few_jitters_are_named() {
+    let late = |request: &Vec<u8>| {
+        let table = ask::Body(&request[3..]).table().expect("a table");
+        is_late(&table)
+    };
+    for (wanted, line) in [
+        (
+            true,
+            "response times, a jitter in the table: came 30 times in ",
+        ),
+        (
+            false,
+            "response times, no jitter in the table: came 30 times in ",
+        ),
+    ] {
+        let (with, mut stream): (Vec<_>, Vec<_>) = requests(5, COUNT + 4_000)
+            .into_iter()
+            .partition(|request| request[0] == 3 && late(request) == wanted);
+        stream.extend(with[..30].iter().cloned());
+        let whole = stream.concat();
+        let said = missing(&whole, &answers(&whole)).expect("too few");
+        assert!(said.lines().any(|said| said.starts_with(line)), "{said}");
+    }
+}
+
+/// Jitters are drawn inside their range, and not all are 0 where one can be above it.
+#[test]
+fn drawn_jitters_are_in_range() {
+    let random = &mut Random::new(8);
+    for n in 1..=MOST_TASKS as u32 {
+        for _ in 0..200 {
+            let mut cabinet = cabinet(random, n, false);
+            draw_jitters(random, &mut cabinet.table);
+            let tasks = cabinet.table.tasks();
+            assert!(tasks.iter().all(|task| task.jitter < task.period));
+            let can_be = tasks.iter().any(|task| task.period > 1);
+            assert_eq!(is_late(&cabinet.table), can_be);
+        }
+    }
+}
+
+/// Jitters that are eased leave no tolerance below zero where that can be had by jitters of more than
+/// a tick; a table that none are to blame for stays as it is.
+#[test]
+fn eased_jitters_are_borne() {
+    let late = |jitters: [u32; 2], deadline| {
+        let mut table = assigned(&[(2, 10, deadline), (4, 20, 20)], &[1, 2], &[1, 2]);
+        for (record, jitter) in table.records.iter_mut().zip(jitters) {
+            record.jitter = jitter;
+        }
+        ease_jitters(&mut table);
+        [table.records[0].jitter, table.records[1].jitter]
+    };
+    assert_eq!(late([8, 3], 10), [8, 3]);
+    assert_eq!(late([9, 3], 10), [4, 1]);
+    assert_eq!(late([9, 19], 10), [4, 9]);
+    assert_eq!(late([9, 19], 1), [9, 19]);
+    assert_eq!(late([0, 0], 10), [0, 0]);
 }
 
 #[test]

@@ -13,7 +13,7 @@ use crate::analysis::*;
 use crate::lengths::lengths;
 
 /// R and k of each task.
-fn answered(table: &Table) -> Vec<Option<(i64, u64)>> {
+pub fn answered(table: &Table) -> Vec<Option<(i64, u64)>> {
     let responses = response_times(table).expect("refused");
     let pair = |response: Response| (response.time, response.job);
     responses.into_iter().map(|one| one.map(pair)).collect()
@@ -268,11 +268,19 @@ fn a_job_far_behind() {
     assert_eq!(answered(&table)[2], Some(far));
 }
 
-/// How long each job takes from its release to its end when task i and those above it are run tick
-/// by tick: all come at tick 0 and then with each period, and before anybody else runs what still
-/// has to run of a lower task that is in the way. It ends with the active period: at the first tick
-/// at which nothing is left of what came before. `None` where that takes longer.
-fn run(table: &Table, i: usize, longest: u32) -> Option<Vec<i64>> {
+/// Whether a job of the task comes at this tick when its first one comes at tick 0 as late as it may
+/// and no other is late: job q is due for release at q·T - J (document 02, item 8). J is below T, so
+/// one alone comes at tick 0.
+fn comes(task: &Record, tick: u32) -> bool {
+    tick == 0 || (tick + task.jitter) % task.period == 0
+}
+
+/// How long each job takes from the tick at which it was due for release to its end when task i and
+/// those above it are run tick by tick: all come at tick 0, as late as they may, and then in time
+/// with each period, and before anybody else runs what still has to run of a lower task that is in
+/// the way. It ends with the active period: at the first tick at which nothing is left of what came
+/// before. `None` where that takes longer.
+pub fn run(table: &Table, i: usize, longest: u32) -> Option<Vec<i64>> {
     let own = table.records[i];
     let others = table.tasks().iter();
     let (higher, lower): (Vec<&Record>, Vec<&Record>) = others
@@ -290,13 +298,9 @@ fn run(table: &Table, i: usize, longest: u32) -> Option<Vec<i64>> {
             return Some(taken);
         }
         for (left, task) in left.iter_mut().zip(&higher) {
-            *left += if tick % task.period == 0 {
-                task.cost
-            } else {
-                0
-            };
+            *left += if comes(task, tick) { task.cost } else { 0 };
         }
-        waiting += (tick % own.period == 0) as u32;
+        waiting += comes(&own, tick) as u32;
         if in_the_way > 0 {
             in_the_way -= 1;
             continue;
@@ -314,8 +318,8 @@ fn run(table: &Table, i: usize, longest: u32) -> Option<Vec<i64>> {
         if begun > 0 {
             begun -= 1;
             if begun == 0 {
-                let released = taken.len() as i64 * own.period as i64;
-                taken.push(tick as i64 + 1 - released);
+                let due = taken.len() as i64 * own.period as i64 - own.jitter as i64;
+                taken.push(tick as i64 + 1 - due);
             }
         }
     }
@@ -323,7 +327,7 @@ fn run(table: &Table, i: usize, longest: u32) -> Option<Vec<i64>> {
 }
 
 /// The largest of these, and its first place.
-fn first_largest(taken: &[i64]) -> (i64, u64) {
+pub fn first_largest(taken: &[i64]) -> (i64, u64) {
     let mut first = (taken[0], 0);
     for (k, time) in taken.iter().enumerate() {
         if *time > first.0 {

@@ -37,6 +37,7 @@ fn put_record(buf: &mut [u8], at: usize, r: Record) -> usize
         r.first,
         r.count,
         r.name,
+        r.jitter,
     ];
     say::words(buf, at, &numbers)
 }

@@ -43,13 +43,14 @@ pub extern "C" fn bench_write(table: &[u8], own: &[u32], out: &mut [u8]) -> u64 
     }
 }
 
-// A response time and its job. Neither lies above the horizon: the remainders only say so where the sum is proved not to wrap.
+// A response time and its job. Both lie below twice the horizon, as F and J each lie at most at it and J below a period: the
+// remainders only say so where the sum is proved not to wrap.
 fn both(r: Response) -> u64
-    ensures { λ x. ⌜ x ≤ 2 * horizon ⌝ }
+    ensures { λ x. ⌜ x ≤ 4 * horizon ⌝ }
 {
     let time = r.time;
     match time {
-        Time::At(x) => x % (HORIZON + 1) + r.job % (HORIZON + 1),
+        Time::At(x) => x % (2 * HORIZON) + r.job % (2 * HORIZON),
         Time::Beyond => 0,
     }
 }

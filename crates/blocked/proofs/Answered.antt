@@ -17,14 +17,15 @@ pub answered-cut : (t : Table) → firstOf (tolerancesAsks t) ≡ Done → (i : 
     → Cut (tasksOf (t .records) (t .n)) (assigned (t .records)) i
 answered-cut t e i l cut =
     let f = tolerances-done t e in
-    let r = times-ranged t (f .times) in
-    let once = well-formed (t .records) (t .n) (f .times .assignment) (f .times .assigned) .0 in
+    let times = f .shared .times in
+    let r = times-ranged t times in
+    let once = well-formed (t .records) (t .n) (times .assignment) (times .assigned) .0 in
     record {
       among = l;
       periods = λ j h. r .periods j h .0;
       cost = r .costs i l .0;
-      deadline = r .deadlines i l .0;
-      due = leb-true _ _ (every-says (t .n) _ (f .deadlines) i l);
+      instant = f .instants i l;
+      due = leb-true _ _ (every-says (t .n) _ (f .shared .deadlines) i l);
       near = r .deadlines i l .1;
       alone = λ j h q. each-once-apart (t .n) _ once j i h l q;
       cut = cut;

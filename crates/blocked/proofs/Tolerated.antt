@@ -1,4 +1,4 @@
--- What a tolerance is for: where D(i) ≤ T(i), a task that every higher one may cut passes exactly when it is blocked for no longer than its tolerance.
+-- What a tolerance is for: where D(i) ≤ T(i) and its jitter leaves a t, a task that every higher one may cut passes exactly when it is blocked for no longer than its tolerance.
 use Prim.Native.Nat.{ℕ, _+_, _-_, _*_, _/_, _≤_, _<_, zero-le}
 use mathlib.Core.Path.{_≡_, refl, sym, ap, subst}
 use mathlib.Core.Bool.{Bool, true, false, cond}
@@ -11,7 +11,7 @@ use lib.IntN.{ℤ, pos, negsuc}
 use lib.Signed.{_≤ℤ_}
 use Rattle.paper.specs.Numbers.{horizon, Assignment}
 use Rattle.paper.specs.Analysis.{Tasks, before, by, load, blocks, blocking, standing, levelSum, levelOf, startSum, startOf, finishSum, finishOf, finishFrom, job, withJob, taskPasses}
-use Rattle.paper.specs.Lengths.{slack, tolerance, allowed, lengthOf}
+use Rattle.paper.specs.Lengths.{slack, tolerance, noInstant, allowed, lengthOf}
 use Rattle.paper.specs.declared.Time.{Time}
 use Rattle.paper.specs.declared.Time.the-variants.{At, Beyond}
 use Rattle.paper.proofs.Signed.{≤ℤ-trans, pos-le, le-pos}
@@ -26,12 +26,12 @@ use Rattle.laws.proofs.Arrivals.{before-le, by-is, load-same, load-part, load-l
 use Rattle.laws.proofs.Least.{fixed, Found, found}
 use Rattle.laws.proofs.Rising.{level-le, start-le, finish-le}
 
--- task i of y is cut by every task above it, no other has its priority, and its deadline lies within its period and the horizon
+-- task i of y is cut by every task above it, no other has its priority, its deadline lies within its period and the horizon, and its jitter leaves a t before it
 pub record Cut (y : Tasks) (a : Assignment) (i : ℕ) : Type 0 where
   pub among : i < y .n
   pub periods : (j : ℕ) → j < y .n → 1 ≤ y .t j
   pub cost : 1 ≤ y .c i
-  pub deadline : 1 ≤ y .d i
+  pub instant : noInstant y i ≡ false
   pub due : y .d i ≤ y .t i
   pub near : y .d i ≤ horizon
   pub alone : (j : ℕ) → j < y .n → a .p j ≡ a .p i → j ≡ i
@@ -45,12 +45,12 @@ module _ (y : Tasks) (a : Assignment) (i : ℕ) (w : Cut y a i) where
   abbrev b : ℕ
   b = blocking y a i - 1
 
-  -- up to its period a task is asked for once
-  once : (x : ℕ) → x ≤ y .t i → before y x i ≤ 1
+  -- up to its period less its jitter a task is asked for once
+  once : (x : ℕ) → x + y .j i ≤ y .t i → before y x i ≤ 1
   unfolding before
   once x h =
       let one = w .periods i (w .among) in
-      let l : (x + (y .t i - 1)) / y .t i < 2 = div-lt-iff-lt-mul one .1 (omega arith) in
+      let l : (x + y .j i + (y .t i - 1)) / y .t i < 2 = div-lt-iff-lt-mul one .1 (omega arith) in
       omega arith
 
   -- in L count those that count in S, and the task itself
@@ -126,11 +126,11 @@ module _ (y : Tasks) (a : Assignment) (i : ℕ) (w : Cut y a i) where
           let n = finish-need v at (o .f) (omega (arith, f .low)) in
           ≤ℤ-trans
           (need-slack (o .f) .1 (omega arith))
-          (tolerance-bounds y a i (o .f) (omega (arith, f .low)) (omega (arith, o .ok, zero-mul (y .t i))))
+          (tolerance-bounds y a i (o .f) (record { low = omega (arith, f .low); high = omega (arith, o .ok, zero-mul (y .t i)) }))
       go Beyond ev ef = let z : _≡_ {A = ℕ} 0 1 = cc in absurd (omega arith)
 
   -- and where it has all that it needs by u + 1, L and the S and F of its one job are there by then
-  module _ (u : ℕ) (fits : need (u + 1) ≤ u + 1) (early : u + 1 ≤ y .d i) where
+  module _ (u : ℕ) (fits : need (u + 1) ≤ u + 1) (early : u + 1 + y .j i ≤ y .d i) where
     begins : Found (startSum y (standing y a i) i 0) 0 (horizon + 1) u
     begins =
         found (startSum y (standing y a i) i 0) 0 (horizon + 1) u (start-le y (standing y a i) i 0) zero-le zero-le
@@ -184,10 +184,10 @@ module _ (y : Tasks) (a : Assignment) (i : ℕ) (w : Cut y a i) where
         let o = within-jobs y (standing y a i) i (y .d i) .0 e in
         in-time (o .jobs 0 (first-job y i (o .l) (w .periods i (w .among)) (level-positive y (standing y a i) (o .l) (o .level)))),
     λ h.
-        let r = tolerance-reached y a i (w .deadline) in
-        let n : r .0 ≡ r .0 - 1 + 1 = omega (arith, r .1) in
-        let fits = need-slack (r .0) .0 (rw (r .3) at h) in
-        within-jobs y (standing y a i) i (y .d i) .1 (all-in-time (r .0 - 1) (rw n at fits) (omega (arith, r .1, r .2))),
+        let r = tolerance-reached y a i (w .instant) in
+        let n : r .0 ≡ r .0 - 1 + 1 = omega (arith, r .1 .low) in
+        let fits = need-slack (r .0) .0 (rw (r .2) at h) in
+        within-jobs y (standing y a i) i (y .d i) .1 (all-in-time (r .0 - 1) (rw n at fits) (omega (arith, r .1 .low, r .1 .high))),
   )
 
   -- What a length is for: where i's tolerance isn't below zero, and no task that blocks i costs more than its own length, i passes.

@@ -142,7 +142,21 @@ fn put_reason(buf: &mut [u8], at: usize, r: Refusal) -> usize
         }
         Refusal::BadRow => say::word(buf, at, b"the row is not well formed"),
         Refusal::BlankPlate => say::word(buf, at, b"the file or the plate has cabinet 0 or line 0"),
+        Refusal::JitterInEditionOne => say::word(
+            buf,
+            at,
+            b"a job has a jitter, for which a file of edition 1 has no place",
+        ),
     }
+}
+
+// Its number.
+pub fn put_number(buf: &mut [u8], at: usize, r: Refusal) -> usize
+    requires { ⌜ at ≤ length (now buf) ⌝ }
+    ensures { λ x. ⌜ x ≤ length (now (buf .entry)) ⌝ }
+{
+    let numbered = say::count(buf, at, b"refused", numbers::number_of(r));
+    say::word(buf, numbered, b": ")
 }
 
 // Its number, and then the words.
@@ -150,8 +164,7 @@ pub fn put_refused(buf: &mut [u8], at: usize, r: Refusal) -> usize
     requires { ⌜ at ≤ length (now buf) ⌝ }
     ensures { λ x. ⌜ x ≤ length (now (buf .entry)) ⌝ }
 {
-    let numbered = say::count(buf, at, b"refused", numbers::number_of(r));
-    let colon = say::word(buf, numbered, b": ");
-    let told = put_reason(buf, colon, r);
+    let numbered = put_number(buf, at, r);
+    let told = put_reason(buf, numbered, r);
     say::newline(buf, told)
 }

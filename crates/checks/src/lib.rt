@@ -1,4 +1,4 @@
-// The conditions that the refusals 5, 9, 10, 14, 15 and 18 ask, shared by the calls.
+// The conditions that the refusals 5, 9, 10, 14, 15, 18 and 19 ask, shared by the calls.
 ghost use mathlib.Core.Path.{_≡_};
 ghost use mathlib.Core.Bool.{not};
 ghost use Prim.Native.Nat.{_≤_};
@@ -42,8 +42,10 @@ pub fn ticks_in_range(x: u32) -> bool
 fn record_in_range(r: Record) -> bool
     ensures { λ b. ⌜ b ≡ recordInRange r ⌝ }
 {
+    let named = r.name <= paper::MOST_NAME;
+    let in_time = r.jitter < r.period;
     ticks_in_range(r.cost)
-        & (ticks_in_range(r.period) & (ticks_in_range(r.deadline) & (r.name <= paper::MOST_NAME)))
+        & (ticks_in_range(r.period) & (ticks_in_range(r.deadline) & (named & in_time)))
 }
 
 // What is asked of each record.
@@ -51,6 +53,7 @@ enum Test {
     InRange,
     Unassigned,
     DeadlineHolds,
+    Unjittered,
 }
 
 fn passes(test: Test, r: Record) -> bool
@@ -60,6 +63,7 @@ fn passes(test: Test, r: Record) -> bool
         Test::InRange => record_in_range(r),
         Test::Unassigned => (r.priority == 0) & (r.threshold == 0),
         Test::DeadlineHolds => r.deadline <= r.period,
+        Test::Unjittered => r.jitter == 0,
     }
 }
 
@@ -97,6 +101,14 @@ pub fn deadlines_hold(rs: [Record; paper::MOST_TASKS], n: usize) -> bool
     ensures { λ b. ⌜ b ≡ every n (λ k. leb (rec rs k .deadline) (rec rs k .period)) ⌝ }
 {
     all_pass(rs, n, Test::DeadlineHolds)
+}
+
+// 19: no task has a jitter, for which a file of edition 1 has no place.
+pub fn unjittered(rs: [Record; paper::MOST_TASKS], n: usize) -> bool
+    requires { ⌜ n ≤ mostTasks ⌝ }
+    ensures { λ b. ⌜ b ≡ every n (λ k. eqb (rec rs k .jitter) 0) ⌝ }
+{
+    all_pass(rs, n, Test::Unjittered)
 }
 
 // 10: the assignment. Whether x is none of the first k numbers.

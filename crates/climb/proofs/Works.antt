@@ -17,19 +17,19 @@ use Rattle.climb.specs.declared.Equation.{Equation}
 
 -- the most that one task adds
 abbrev pub mostPart : ℕ
-mostPart = (horizon + 1) * mostTicks
+mostPart = (horizon + 1 + mostTicks) * mostTicks
 
 -- what task j adds
 abbrev pub partOf : Tasks → Assignment → ℕ → ℕ → ℕ → ℕ
-partOf y a limit x j = cond (ltb (a .p j) limit) (ceilDiv x (y .t j) * y .c j) 0
+partOf y a limit x j = cond (ltb (a .p j) limit) (ceilDiv (x + y .j j) (y .t j) * y .c j) 0
 
 -- by its own numbers
-pub part-is : (y : Tasks) (a : Assignment) (limit x j : ℕ) {c t r : ℕ} → c ≡ y .c j → t ≡ y .t j
-    → r ≡ cond (ltb (a .p j) limit) (ceilDiv x t * c) 0 → r ≡ partOf y a limit x j
-part-is y a limit x j ec et e = rw (← ec, ← et) e
+pub part-is : (y : Tasks) (a : Assignment) (limit x k : ℕ) {c t j r : ℕ} → c ≡ y .c k → t ≡ y .t k → j ≡ y .j k
+    → r ≡ cond (ltb (a .p k) limit) (ceilDiv (x + j) t * c) 0 → r ≡ partOf y a limit x k
+part-is y a limit x k ec et ej e = rw (← ec, ← et, ← ej) e
 
-pub jobs-bound : (x t c : ℕ) → x ≤ horizon + 1 → 1 ≤ t → c ≤ mostTicks → ceilDiv x t * c ≤ mostPart
-jobs-bound x t c hx ht hc = mul-le-mul {n₂ = horizon + 1} {m₂ = mostTicks} (le-trans (ceil-bound t x ht) hx) hc
+pub jobs-bound : (x t j c : ℕ) → x ≤ horizon + 1 → t ≤ mostTicks → j < t → c ≤ mostTicks → ceilDiv (x + j) t * c ≤ mostPart
+jobs-bound x t j c hx ht hj hc = mul-le-mul {n₂ = horizon + 1 + mostTicks} {m₂ = mostTicks} (le-trans (ceil-bound t (x + j) (omega arith)) (omega arith)) hc
 
 module _ (y : Tasks) (a : Assignment) where
   module _ (limit : ℕ) where
@@ -43,7 +43,7 @@ module _ (y : Tasks) (a : Assignment) where
 
     module _ (r : Ranged y) (x : ℕ) (h : x ≤ horizon + 1) where
       pub part-of-bound : (j : ℕ) → j < y .n → partOf y a limit x j ≤ mostPart
-      part-of-bound j l = part-bound (ltb (a .p j) limit) (jobs-bound x _ _ h (r .periods j l .0) (r .costs j l .1))
+      part-of-bound j l = part-bound (ltb (a .p j) limit) (jobs-bound x _ _ _ h (r .periods j l .1) (r .jitters j l) (r .costs j l .1))
 
       pub sum-of-bound : (j : ℕ) → j ≤ y .n → sumTo j (partOf y a limit x) ≤ j * mostPart
       sum-of-bound j l = sum-bound j mostPart _ (λ k m. part-of-bound k (le-trans m l))

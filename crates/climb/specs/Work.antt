@@ -6,7 +6,7 @@ use Rattle.paper.specs.Analysis.{Tasks, least, before, load}
 use Rattle.paper.specs.declared.Time.{Time}
 use Rattle.climb.specs.declared.Equation.{Equation}
 
--- the time that the jobs asked for before x take, of the tasks whose priority is above the limit
+-- the time that the jobs which may have been asked for before x take, of the tasks whose priority is above the limit
 unfoldable pub work : Tasks → Assignment → ℕ → ℕ → ℕ
 work y a limit x = load y (λ j. ltb (a .p j) limit) (before y x)
 

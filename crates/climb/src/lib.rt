@@ -4,7 +4,7 @@ use columns::Tasks;
 use paper::Time;
 ghost use mathlib.Core.Path.{_≡_};
 ghost use mathlib.Core.Bool.{cond};
-ghost use Prim.Native.Nat.{_+_, _*_, _≤_};
+ghost use Prim.Native.Nat.{_+_, _*_, _≤_, _<_};
 ghost use lib.Dec.{ltb};
 ghost use Rattle.paper.specs.Vocabulary.{ceilDiv};
 ghost use Rattle.paper.specs.Numbers.{mostTicks, horizon};
@@ -19,21 +19,27 @@ pub struct Equation {
     pub edge: u64,
 }
 
-// Jobs asked for before x. All numbers here fit 32 bits, in which many machines divide far quicker.
-pub fn arrived(x: u64, t: u64) -> u64
-    requires { ⌜ (x ≤ horizon + 1) × (1 ≤ t) × (t ≤ mostTicks) ⌝ }
-    ensures { λ r. ⌜ r ≡ ceilDiv x t ⌝ }
+// Jobs of a task that may have been asked for before x. All numbers here fit 32 bits, in which many
+// machines divide far quicker.
+pub fn arrived(x: u64, period: u64, jitter: u64) -> u64
+    requires { ⌜ (x ≤ horizon + 1) × (period ≤ mostTicks) × (jitter < period) ⌝ }
+    ensures { λ r. ⌜ r ≡ ceilDiv (x + jitter) period ⌝ }
 {
-    let up = (x + (t - 1)) as u32;
-    (up / t as u32) as u64
+    let t = period as u32;
+    let up = x as u32 + (t - 1) + jitter as u32;
+    (up / t) as u64
 }
 
 // What one task adds.
-fn part(x: u64, limit: u64, c: u64, t: u64, p: u64) -> u64
-    requires { ⌜ (x ≤ horizon + 1) × (1 ≤ t) × (t ≤ mostTicks) × (c ≤ mostTicks) ⌝ }
-    ensures { λ r. ⌜ r ≡ cond (ltb p limit) (ceilDiv x t * c) 0 ⌝ }
+fn part(x: u64, limit: u64, cost: u64, period: u64, jitter: u64, p: u64) -> u64
+    requires { ⌜ (x ≤ horizon + 1) × (period ≤ mostTicks) × (jitter < period) × (cost ≤ mostTicks) ⌝ }
+    ensures { λ r. ⌜ r ≡ cond (ltb p limit) (ceilDiv (x + jitter) period * cost) 0 ⌝ }
 {
-    if p < limit { arrived(x, t) * c } else { 0 }
+    if p < limit {
+        arrived(x, period, jitter) * cost
+    } else {
+        0
+    }
 }
 
 pub fn work(n: usize, y: &Tasks, p: &Numbers, limit: u64, x: u64) -> u64
@@ -43,7 +49,10 @@ pub fn work(n: usize, y: &Tasks, p: &Numbers, limit: u64, x: u64) -> u64
     let mut total = 0;
     let mut j = 0;
     while j < n {
-        total = total + part(x, limit, columns::cost(y, j), columns::period(y, j), p[j]);
+        let cost = columns::cost(y, j);
+        let period = columns::period(y, j);
+        let jitter = columns::jitter(y, j);
+        total = total + part(x, limit, cost, period, jitter, p[j]);
         j = j + 1;
     }
     total

@@ -6,8 +6,8 @@ use mathlib.Core.List.{List}
 use mathlib.Core.Logic.{by-cases}
 use native.Mathlib.Omega.{arith}
 use native.Mathlib.Decide.{decLt}
-use borrow.Author.Tests.{leb-true, lt-ltb, le-ltb}
-use lib.Dec.{leb}
+use borrow.Author.Tests.{leb-true, ltb-true, lt-ltb, le-ltb}
+use lib.Dec.{leb, ltb}
 use lib.ListN.{length, getD, List·getD-eq-default}
 use Rattle.paper.specs.Numbers.{mostTasks, mostTicks, mostName, zeroRecord, rec, ticksInRange, recordInRange, recordsInRange, eachOnce, thresholdsHold, assigned, unassigned, assignmentHolds}
 use Rattle.paper.specs.Analysis.{tasksOf}
@@ -17,7 +17,7 @@ use Rattle.paper.proofs.Formed.{each-once-range, threshold-range}
 use Rattle.laws.proofs.Lists.{list-length, list-at}
 use Rattle.columns.specs.Columns.{valueIn, taskColumns, columnAt, columnOf, columnsOf, numberAt, tasksBy, assignedBy, Ranged, Placed}
 use Rattle.columns.specs.declared.Column.{Column}
-use Rattle.columns.specs.declared.Column.the-variants.{Cost, Period, Deadline, Priority, Threshold}
+use Rattle.columns.specs.declared.Column.the-variants.{Cost, Period, Deadline, Priority, Threshold, Jitter}
 
 -- a number of a task that there is
 pub number-at : (m : ℕ) (ys : List ℕ) (k place : ℕ) → k < mostTasks → place ≡ m * mostTasks + k → getD ys place 0 ≡ numberAt m ys k
@@ -39,6 +39,7 @@ zero-in Period = refl
 zero-in Deadline = refl
 zero-in Priority = refl
 zero-in Threshold = refl
+zero-in Jitter = refl
 
 past : (rs : List Record) (which : Column) → length rs ≡ mostTasks → (k : ℕ) → mostTasks ≤ k → valueIn which (rec rs k) ≡ 0
 past rs which e k h =
@@ -76,6 +77,7 @@ tasks-by rs n e i = record {
   c = λ k. columns-all rs 0 (omega arith) e k i;
   t = λ k. columns-all rs 1 (omega arith) e k i;
   d = λ k. columns-all rs 2 (omega arith) e k i;
+  j = λ k. columns-all rs 3 (omega arith) e k i;
 }
 
 pub ranged-by : (rs : List Record) (n : ℕ) {ys : List ℕ} → ys ≡ columnsOf rs → length rs ≡ mostTasks → Ranged (tasksOf rs n) → Ranged (tasksBy n ys)
@@ -91,17 +93,20 @@ pub record InRange (r : Record) : Type 0 where
   pub periods : (1 ≤ r .period) × (r .period ≤ mostTicks)
   pub deadlines : (1 ≤ r .deadline) × (r .deadline ≤ mostTicks)
   pub names : r .name ≤ mostName
+  pub jitters : r .jitter < r .period
 
 pub record-says : (r : Record) → recordInRange r ≡ true → InRange r
 record-says r e =
-    let c = both (ticksInRange (r .cost)) (ticksInRange (r .period) && (ticksInRange (r .deadline) && leb (r .name) mostName)) e in
-    let t = both (ticksInRange (r .period)) (ticksInRange (r .deadline) && leb (r .name) mostName) (c .1) in
-    let d = both (ticksInRange (r .deadline)) (leb (r .name) mostName) (t .1) in
+    let c = both (ticksInRange (r .cost)) _ e in
+    let t = both (ticksInRange (r .period)) _ (c .1) in
+    let d = both (ticksInRange (r .deadline)) _ (t .1) in
+    let n = both (leb (r .name) mostName) (ltb (r .jitter) (r .period)) (d .1) in
     record {
       costs = within 1 mostTicks (r .cost) (c .0);
       periods = within 1 mostTicks (r .period) (t .0);
       deadlines = within 1 mostTicks (r .deadline) (d .0);
-      names = leb-true (r .name) mostName (d .1);
+      names = leb-true (r .name) mostName (n .0);
+      jitters = ltb-true (r .jitter) (r .period) (n .1);
     }
 
 -- an assignment that holds and is there is well formed
@@ -123,6 +128,7 @@ module _ (rs : List Record) (n : ℕ) (few : n ≤ mostTasks) where
     costs = λ k h. says k h .costs;
     periods = λ k h. says k h .periods;
     deadlines = λ k h. says k h .deadlines;
+    jitters = λ k h. says k h .jitters;
   }
     where
       says : (k : ℕ) → k < n → InRange (rec rs k)

@@ -9,7 +9,7 @@ use Rattle.paper.specs.Numbers.{mostTasks, mostTicks, rec, Assignment}
 use Rattle.paper.specs.Analysis.{Tasks}
 use Rattle.paper.specs.declared.Record.{Record}
 use Rattle.columns.specs.declared.Column.{Column}
-use Rattle.columns.specs.declared.Column.the-variants.{Cost, Period, Deadline, Priority, Threshold}
+use Rattle.columns.specs.declared.Column.the-variants.{Cost, Period, Deadline, Priority, Threshold, Jitter}
 
 -- the number of a record that stands in a column
 abbrev pub valueIn : Column → Record → ℕ
@@ -18,6 +18,7 @@ valueIn Period r = r .period
 valueIn Deadline r = r .deadline
 valueIn Priority r = r .priority
 valueIn Threshold r = r .threshold
+valueIn Jitter r = r .jitter
 
 -- a column: that number of every record
 abbrev pub columnOf : List Record → Column → List ℕ
@@ -25,12 +26,13 @@ columnOf rs which = listTo mostTasks (λ j. valueIn which (rec rs j))
 
 -- the columns of the tasks in one list, one after the other
 abbrev pub taskColumns : ℕ
-taskColumns = 3
+taskColumns = 4
 
 abbrev pub columnAt : ℕ → Column
 columnAt zero = Cost
 columnAt (suc zero) = Period
-columnAt (suc (suc m)) = Deadline
+columnAt (suc (suc zero)) = Deadline
+columnAt (suc (suc (suc m))) = Jitter
 
 abbrev pub columnsOf : List Record → List ℕ
 columnsOf rs = listTo (taskColumns * mostTasks) (λ j. valueIn (columnAt (j / mostTasks)) (rec rs (j % mostTasks)))
@@ -46,7 +48,7 @@ numberAt m ys k = cond (ltb k mostTasks) (getD ys (m * mostTasks + k) 0) 0
 
 -- the tasks whose numbers stand in such a list
 abbrev pub tasksBy : ℕ → List ℕ → Tasks
-tasksBy n ys = record { n = n; c = numberAt 0 ys; t = numberAt 1 ys; d = numberAt 2 ys }
+tasksBy n ys = record { n = n; c = numberAt 0 ys; t = numberAt 1 ys; d = numberAt 2 ys; j = numberAt 3 ys }
 
 -- an assignment whose priorities and thresholds stand in columns
 abbrev pub assignedBy : List ℕ → List ℕ → Assignment
@@ -62,6 +64,7 @@ pub record Ranged (y : Tasks) : Type 0 where
   pub costs : (k : ℕ) → k < y .n → (1 ≤ y .c k) × (y .c k ≤ mostTicks)
   pub periods : (k : ℕ) → k < y .n → (1 ≤ y .t k) × (y .t k ≤ mostTicks)
   pub deadlines : (k : ℕ) → k < y .n → (1 ≤ y .d k) × (y .d k ≤ mostTicks)
+  pub jitters : (k : ℕ) → k < y .n → y .j k < y .t k
 
 -- an assignment on which it may run: priorities and thresholds from 1 to the most tasks
 pub record Placed (n : ℕ) (a : Assignment) : Type 0 where

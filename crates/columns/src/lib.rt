@@ -13,20 +13,21 @@ pub enum Column {
     Deadline,
     Priority,
     Threshold,
+    Jitter,
 }
 
 // How many columns the tasks have; the assignment's two stand beside them.
-const TASK_COLUMNS: usize = 3;
+const TASK_COLUMNS: usize = 4;
 
 const TASK_NUMBERS: usize = TASK_COLUMNS * MOST_TASKS;
 
-// The numbers of the tasks, column after column: costs, periods, deadlines.
+// The numbers of the tasks, column after column: costs, periods, deadlines, jitters.
 pub type Tasks = [u64; TASK_NUMBERS];
 
 // One number for each task.
 pub type Numbers = [u64; MOST_TASKS];
 
-// C(k), T(k) and D(k).
+// C(k), T(k), D(k) and J(k).
 pub fn cost(y: &Tasks, k: usize) -> u64
     requires { ⌜ k < mostTasks ⌝ }
     ensures { λ r. ⌜ r ≡ numberAt 0 (now (y .entry)) k ⌝ }
@@ -48,6 +49,13 @@ pub fn deadline(y: &Tasks, k: usize) -> u64
     y[2 * MOST_TASKS + k]
 }
 
+pub fn jitter(y: &Tasks, k: usize) -> u64
+    requires { ⌜ k < mostTasks ⌝ }
+    ensures { λ r. ⌜ r ≡ numberAt 3 (now (y .entry)) k ⌝ }
+{
+    y[3 * MOST_TASKS + k]
+}
+
 fn value_in(which: Column, r: Record) -> u64
     ensures { λ x. ⌜ x ≡ valueIn which r ⌝ }
 {
@@ -57,6 +65,7 @@ fn value_in(which: Column, r: Record) -> u64
         Column::Deadline => r.deadline as u64,
         Column::Priority => r.priority as u64,
         Column::Threshold => r.threshold as u64,
+        Column::Jitter => r.jitter as u64,
     }
 }
 
@@ -96,5 +105,6 @@ pub fn columns_of(rs: [Record; MOST_TASKS]) -> Tasks
     put_column(&mut ys, 0, rs, Column::Cost);
     put_column(&mut ys, 1, rs, Column::Period);
     put_column(&mut ys, 2, rs, Column::Deadline);
+    put_column(&mut ys, 3, rs, Column::Jitter);
     ys
 }

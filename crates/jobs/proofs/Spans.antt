@@ -1,14 +1,13 @@
 -- A job's span says its start and its finish, and L says how many jobs there are.
-use Prim.Native.Nat.{ℕ, _≤_}
+use Prim.Native.Nat.{ℕ, _+_, _≤_, _<_}
 use mathlib.Core.Path.{_≡_, refl, ap, _∙_}
 use native.Mathlib.Omega.{arith}
-use native.Mathlib.Nat.{le-trans}
 use Rattle.paper.specs.Vocabulary.{ceilDiv}
 use Rattle.paper.specs.Numbers.{horizon}
 use Rattle.paper.specs.Analysis.{Tasks, Standing, before, levelOf, startOf, finishOf, finishFrom, job, worstFrom, response}
 use Rattle.paper.specs.declared.Time.{Time}
 use Rattle.paper.specs.declared.Time.the-variants.{At, Beyond}
-use Rattle.laws.proofs.Arrivals.{ceil-bound}
+use Rattle.laws.proofs.Arrivals.{late-bound}
 use Rattle.jobs.specs.Stands.{finished, spanFrom, spanOf, countFrom, jobCount}
 use Rattle.jobs.specs.declared.Span.{Span}
 use Rattle.jobs.specs.declared.Span.the-variants.{Ends}
@@ -59,21 +58,22 @@ module _ (y : Tasks) (s : Standing) (i k : ℕ) where
 
 -- the number of jobs, by L
 module _ (y : Tasks) (s : Standing) (i : ℕ) where
-  pub count-at : (l period jobs : ℕ) → levelOf y s ≡ At l → period ≡ y .t i → jobs ≡ ceilDiv l period → At jobs ≡ jobCount y s i
+  pub count-at : (l period jitter jobs : ℕ) → levelOf y s ≡ At l → period ≡ y .t i → jitter ≡ y .j i → jobs ≡ ceilDiv (l + jitter) period
+      → At jobs ≡ jobCount y s i
   unfolding jobCount countFrom before
-  count-at l period jobs h e j = rw (h, ← e, j)
+  count-at l period jitter jobs h e f j = rw (h, ← e, ← f, j)
 
   pub count-beyond : levelOf y s ≡ Beyond → Beyond ≡ jobCount y s i
   unfolding jobCount countFrom
   count-beyond h = rw h
 
-  -- no more jobs than ticks
-  pub count-bound : (jobs : ℕ) → 1 ≤ y .t i → ((l : ℕ) → levelOf y s ≡ At l → l ≤ horizon) → jobCount y s i ≡ At jobs → jobs ≤ horizon
+  -- no more jobs than ticks, and one that came late
+  pub count-bound : (jobs : ℕ) → y .j i < y .t i → ((l : ℕ) → levelOf y s ≡ At l → l ≤ horizon) → jobCount y s i ≡ At jobs → jobs ≤ horizon + 1
   unfolding jobCount countFrom before
-  count-bound jobs ht range h = go (levelOf y s) refl h
+  count-bound jobs hj range h = go (levelOf y s) refl h
     where
-      go : (v : Time) → levelOf y s ≡ v → countFrom y i v ≡ At jobs → jobs ≤ horizon
-      go (At l) f e = let z : ceilDiv l (y .t i) ≡ jobs = cc in rw (← z) (le-trans (ceil-bound (y .t i) l ht) (range l f))
+      go : (v : Time) → levelOf y s ≡ v → countFrom y i v ≡ At jobs → jobs ≤ horizon + 1
+      go (At l) f e = let z : ceilDiv (l + y .j i) (y .t i) ≡ jobs = cc in rw (← z) (omega (arith, late-bound (y .t i) l (y .j i) hj, range l f))
       go Beyond f e = let z : _≡_ {A = ℕ} 0 1 = cc in absurd (omega arith)
 
   -- where they can't be counted, there is no R

@@ -47,7 +47,7 @@ spanFrom y s i Beyond = Span.Beyond
 unfoldable pub spanOf : Tasks → Standing → ℕ → ℕ → Span
 spanOf y s i k = spanFrom y s i (startOf y s i k)
 
--- jobs k run from 0 to ceil(L/T(i)) − 1: how many these are
+-- jobs k run from 0 to ceil((L + J(i))/T(i)) − 1: how many these are
 unfoldable pub countFrom : Tasks → ℕ → Time → Time
 countFrom y i (At l) = At (before y l i)
 countFrom y i Beyond = Beyond

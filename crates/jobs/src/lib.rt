@@ -91,7 +91,7 @@ fn level(n: usize, y: &Tasks, p: &Numbers, s: Stand) -> Time
     climb::solve(n, y, p, e, 1)
 }
 
-// How many jobs the active period has: those asked for before L.
+// How many jobs the active period has: those that may have been asked for before L.
 pub fn job_count(n: usize, y: &Tasks, p: &Numbers, s: Stand) -> Time
     requires { ⌜ Ranged (tasksBy n (now y)) × Stands (tasksBy n (now y)) (rankedBy (now p)) s ⌝ }
     ensures { λ r. ⌜ r ≡ jobCount (tasksBy n (now (y .entry))) (standBy (rankedBy (now (p .entry))) s) (s .i) ⌝ }
@@ -101,7 +101,8 @@ pub fn job_count(n: usize, y: &Tasks, p: &Numbers, s: Stand) -> Time
         return Time::Beyond;
     };
     let period = columns::period(y, s.i);
-    let many = climb::arrived(v, period);
+    let jitter = columns::jitter(y, s.i);
+    let many = climb::arrived(v, period, jitter);
     Time::At(many)
 }
 

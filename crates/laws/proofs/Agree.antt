@@ -57,7 +57,7 @@ module _ (y : Tasks) where
       worst-agree : (k : ℕ) → worst y s i k ≡ worst y u i k
       unfolding worst
       worst-agree zero = refl
-      worst-agree (suc k) = ap₂ (λ r f. later r f (k * y .t i)) (worst-agree k) (job-agree k)
+      worst-agree (suc k) = ap₂ (λ r f. later r f (y .j i) (k * y .t i)) (worst-agree k) (job-agree k)
 
       worsts-agree : (level : Time) → worstFrom y s i level ≡ worstFrom y u i level
       unfolding worstFrom

@@ -19,20 +19,28 @@ ceil-bound t x ht =
     let l : ceilDiv x t < x + 1 = div-lt-iff-lt-mul ht .1 (rw (add-mul x 1 t) (omega (arith, h, mul-one x, one-mul t))) in
     omega arith
 
+-- and with a jitter below the period at most one more
+pub late-bound : (t x j : ℕ) → j < t → ceilDiv (x + j) t ≤ x + 1
+late-bound t x j h =
+    let e : x + j + (t - 1) ≤ x + (t - 1) + t = omega arith in
+    let low : 1 ≤ t = omega arith in
+    let late = add-div-right (x + (t - 1)) low in
+    omega (arith, div-mono t (x + j + (t - 1)) (x + (t - 1) + t) e, late, ceil-bound t x (omega arith))
+
 module _ (y : Tasks) (j : ℕ) where
   -- with later x no fewer
   pub before-le : (x z : ℕ) → x ≤ z → before y x j ≤ before y z j
   unfolding before
-  before-le x z h = div-mono (y .t j) (x + (y .t j - 1)) (z + (y .t j - 1)) (omega arith)
+  before-le x z h = div-mono (y .t j) (x + y .j j + (y .t j - 1)) (z + y .j j + (y .t j - 1)) (omega arith)
 
   module _ (h : 1 ≤ y .t j) where
     -- by x are those before x + 1
     pub by-is : (x : ℕ) → by y x j ≡ before y (x + 1) j
     unfolding by before
     by-is x =
-        let e : x + 1 + (y .t j - 1) ≡ x + y .t j = omega arith in
-        let f : 1 + x / y .t j ≡ x / y .t j + 1 = omega arith in
-        rw (e, f) (sym (add-div-right x h))
+        let e : x + 1 + y .j j + (y .t j - 1) ≡ x + y .j j + y .t j = omega arith in
+        let f : 1 + (x + y .j j) / y .t j ≡ (x + y .j j) / y .t j + 1 = omega arith in
+        rw (e, f) (sym (add-div-right (x + y .j j) h))
 
 module _ (y : Tasks) (set : ℕ → Bool) where
   pub load-same : (f g : ℕ → ℕ) → ((j : ℕ) → j < y .n → f j ≡ g j) → load y set f ≡ load y set g

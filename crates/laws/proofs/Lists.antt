@@ -71,6 +71,10 @@ module _ {A : Type 0} where
   unfolding perTask
   per-task-length n f z h = simp (length-append, list-length, length-replicate) (omega arith)
 
+  pub per-task-same : (n : ℕ) (f g : ℕ → A) (z : A) → ((k : ℕ) → k < n → f k ≡ g k) → perTask n f z ≡ perTask n g z
+  unfolding perTask
+  per-task-same n f g z h = ap (λ xs. xs ++ replicate (mostTasks - n) z) (list-same n f g h)
+
   pub per-task-at : (n : ℕ) (f : ℕ → A) (z d : A) (k : ℕ) → k < n → getD (perTask n f z) k d ≡ f k
   unfolding perTask
   per-task-at n f z d k h =

@@ -1,5 +1,5 @@
 -- The sums that L, S and F solve never fall.
-use Prim.Native.Nat.{ℕ, _-_, _≤_}
+use Prim.Native.Nat.{ℕ, _+_, _-_, _≤_}
 use native.Mathlib.Omega.{arith}
 use Rattle.paper.specs.Analysis.{Tasks, Standing, before, by, levelSum, startSum, finishSum}
 use Rattle.laws.proofs.Arrivals.{div-mono, before-le, load-le}
@@ -7,7 +7,7 @@ use Rattle.laws.proofs.Least.{Mono}
 
 pub by-le : (y : Tasks) (j x z : ℕ) → x ≤ z → by y x j ≤ by y z j
 unfolding by
-by-le y j x z h = omega (arith, div-mono (y .t j) x z h)
+by-le y j x z h = omega (arith, div-mono (y .t j) (x + y .j j) (z + y .j j) (omega arith))
 
 module _ (y : Tasks) (s : Standing) where
   pub level-le : Mono (levelSum y s)

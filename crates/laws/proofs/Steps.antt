@@ -33,9 +33,9 @@ ceil-stays t x u h l k =
     (rw (add-mul (1 + x / t) 1 t, one-mul t) (omega arith))
 
 -- the jobs asked for before u are those asked for by x
-pub before-stays : (y : Tasks) (x u j : ℕ) → 1 ≤ y .t j → x < u → u ≤ by y x j * y .t j → before y u j ≡ by y x j
+pub before-stays : (y : Tasks) (x u j : ℕ) → 1 ≤ y .t j → x < u → u + y .j j ≤ by y x j * y .t j → before y u j ≡ by y x j
 unfolding before by
-before-stays y x u j h l k = ceil-stays (y .t j) x u h l k
+before-stays y x u j h l k = ceil-stays (y .t j) (x + y .j j) (u + y .j j) h (omega arith) k
 
 -- a load counts the tasks of its set alone
 cond-same : (s : Bool) (m n c : ℕ) → (s ≡ true → m ≡ n) → cond s (m * c) 0 ≡ cond s (n * c) 0

@@ -3,9 +3,8 @@ ghost use mathlib.Core.Path.{_≡_};
 ghost use mathlib.Core.Bool.{cond};
 ghost use mathlib.Core.List.{[], _∷_};
 ghost use Prim.Native.Nat.{_≤_, _<_};
+ghost use lib.Dec.{leb};
 ghost use lib.IntN.{pos, _+ℤ_};
-ghost use lib.ListN.{getD};
-ghost use lib.Signed.{ltZ};
 ghost use Rattle.paper.specs.Vocabulary.{lowest};
 ghost use Rattle.paper.specs.Numbers.{mostTasks, perTask, assigned};
 ghost use Rattle.paper.specs.Analysis.{tasksOf};
@@ -13,8 +12,8 @@ ghost use Rattle.paper.specs.Lengths.{smaller, lengthOf, allFit};
 ghost use Rattle.paper.specs.Refusals.{firstOf, toleranceBelowZero};
 ghost use Rattle.paper.specs.Answers.{fitFor, tolerancesAnswer, lengthsAnswer, fitAnswer};
 ghost use Rattle.paper.specs.declared.Outcome.the-variants.{Done};
-ghost use Rattle.columns.specs.Columns.{tasksBy, rankedBy, Ranged};
-ghost use Rattle.lengths.specs.Stages.{tolerancesOf, lengthsLeft, earlyAsks, turnedAway};
+ghost use Rattle.columns.specs.Columns.{numberAt, tasksBy, rankedBy, Ranged};
+ghost use Rattle.lengths.specs.Stages.{tolerancesOf, tolerancesLeft, lengthsLeft, falls, earlyAsks, turnedAway};
 use columns::Column;
 use columns::Numbers;
 use columns::Tasks;
@@ -26,14 +25,22 @@ use paper::Table;
 use paper::TicksAnswer;
 use tolerance::Ticks;
 
-// The number of the lowest record whose tolerance is below zero, or 0.
-fn lowest_below_zero(n: usize, ticks: &Ticks) -> usize
+// There is no t from 1 to D − J.
+fn no_instant(y: &Tasks, k: usize) -> bool
+    requires { ⌜ k < mostTasks ⌝ }
+    ensures { λ b. ⌜ b ≡ leb (numberAt 2 (now (y .entry)) k) (numberAt 3 (now (y .entry)) k) ⌝ }
+{
+    columns::deadline(y, k) <= columns::jitter(y, k)
+}
+
+// The number of the lowest record with no t, or, if `below`, with ticks below zero; 0 where there is none.
+fn lowest_falling(n: usize, y: &Tasks, ticks: &Ticks, below: bool) -> usize
     requires { ⌜ n ≤ mostTasks ⌝ }
-    ensures { λ r. ⌜ r ≡ lowest n (λ k. ltZ (getD (now (ticks .entry)) k (pos 0)) (pos 0)) ⌝ }
+    ensures { λ r. ⌜ r ≡ lowest n (falls (tasksBy n (now (y .entry))) below (now (ticks .entry))) ⌝ }
 {
     let mut k: usize = 0;
     while k < n {
-        if ticks[k] < 0 {
+        if no_instant(y, k) | (below & (ticks[k] < 0)) {
             return k + 1;
         }
         k += 1;
@@ -92,40 +99,29 @@ fn turned_away(r: Refusal) -> TicksAnswer
     }
 }
 
-// A table whose numbers are in range: the tolerances of its columns.
-fn table_tolerances(t: Table) -> Ticks
-    requires { ⌜ Ranged (tasksOf (t .records) (t .n)) ⌝ }
-    ensures { λ r. ⌜ r ≡ tolerancesOf (tasksOf (t .records) (t .n)) (assigned (t .records)) ⌝ }
+// Refusal 16 where there is no t, or the tolerances: one below zero is a number.
+fn tolerances_or_refusal(n: usize, y: &Tasks, p: &Numbers) -> TicksAnswer
+    requires { ⌜ Ranged (tasksBy n (now y)) ⌝ }
+    ensures { λ r. ⌜ r ≡ tolerancesLeft (tasksBy n (now (y .entry))) (rankedBy (now (p .entry))) ⌝ }
 {
-    let rs = t.records;
-    let y = columns::columns_of(rs);
-    let p = columns::column_of(rs, Column::Priority);
-    tolerance::all_tolerances(t.n, &y, &p)
-}
-
-pub fn tolerances(t: Table) -> TicksAnswer
-    ensures { λ r. ⌜ r ≡ tolerancesAnswer t ⌝ }
-{
-    let outcome = outcomes::tolerances_outcome(t);
-    match outcome {
-        Outcome::Refused(r) => turned_away(r),
-        Outcome::Done => {
-            let ticks = table_tolerances(t);
-            TicksAnswer {
-                outcome: Outcome::Done,
-                ticks: ticks,
-            }
-        }
+    let ticks = tolerance::all_tolerances(n, y, p);
+    let low = lowest_falling(n, y, &ticks, false);
+    if 0 < low {
+        return turned_away(Refusal::ToleranceBelowZero(low));
+    }
+    TicksAnswer {
+        outcome: Outcome::Done,
+        ticks: ticks,
     }
 }
 
-// Refusal 16, or the lengths.
+// Refusal 16 where there is no t or a tolerance is below zero, or the lengths.
 fn lengths_or_refusal(n: usize, y: &Tasks, p: &Numbers) -> TicksAnswer
     requires { ⌜ Ranged (tasksBy n (now y)) ⌝ }
     ensures { λ r. ⌜ r ≡ lengthsLeft (tasksBy n (now (y .entry))) (rankedBy (now (p .entry))) ⌝ }
 {
     let ticks = tolerance::all_tolerances(n, y, p);
-    let low = lowest_below_zero(n, &ticks);
+    let low = lowest_falling(n, y, &ticks, true);
     if 0 < low {
         return turned_away(Refusal::ToleranceBelowZero(low));
     }
@@ -136,7 +132,28 @@ fn lengths_or_refusal(n: usize, y: &Tasks, p: &Numbers) -> TicksAnswer
     }
 }
 
-// What is left of a call of lengths once nothing that the tolerances ask applies. The table is unpacked once.
+// What is left of a call of tolerances once the deadlines hold. The table is unpacked once.
+fn tolerances_in_range(t: Table) -> TicksAnswer
+    requires { ⌜ Ranged (tasksOf (t .records) (t .n)) ⌝ }
+    ensures { λ r. ⌜ r ≡ tolerancesLeft (tasksOf (t .records) (t .n)) (assigned (t .records)) ⌝ }
+{
+    let rs = t.records;
+    let y = columns::columns_of(rs);
+    let p = columns::column_of(rs, Column::Priority);
+    tolerances_or_refusal(t.n, &y, &p)
+}
+
+pub fn tolerances(t: Table) -> TicksAnswer
+    ensures { λ r. ⌜ r ≡ tolerancesAnswer t ⌝ }
+{
+    let outcome = outcomes::deadlines_outcome(t);
+    match outcome {
+        Outcome::Refused(r) => turned_away(r),
+        Outcome::Done => tolerances_in_range(t),
+    }
+}
+
+// And of a call of lengths.
 fn lengths_in_range(t: Table) -> TicksAnswer
     requires { ⌜ Ranged (tasksOf (t .records) (t .n)) ⌝ }
     ensures { λ r. ⌜ r ≡ lengthsLeft (tasksOf (t .records) (t .n)) (assigned (t .records)) ⌝ }
@@ -150,7 +167,7 @@ fn lengths_in_range(t: Table) -> TicksAnswer
 pub fn lengths(t: Table) -> TicksAnswer
     ensures { λ r. ⌜ r ≡ lengthsAnswer t ⌝ }
 {
-    let outcome = outcomes::tolerances_outcome(t);
+    let outcome = outcomes::deadlines_outcome(t);
     match outcome {
         Outcome::Refused(r) => turned_away(r),
         Outcome::Done => lengths_in_range(t),

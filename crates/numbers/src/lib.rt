@@ -26,5 +26,6 @@ pub fn number_of(r: Refusal) -> u64
         Refusal::ToleranceBelowZero(_) => 16,
         Refusal::BadRow => 17,
         Refusal::BlankPlate => 18,
+        Refusal::JitterInEditionOne => 19,
     }
 }

@@ -1,6 +1,7 @@
 // What calls ask that are lent a table alone.
 ghost use mathlib.Core.Path.{_≡_};
-ghost use Rattle.paper.specs.Refusals.{firstOf, timesAsks, tolerancesAsks, firstAsks};
+ghost use Rattle.paper.specs.Refusals.{firstOf, timesAsks, firstAsks};
+ghost use Rattle.outcomes.specs.Shared.{deadlinesAsks};
 use paper::Outcome;
 use paper::Refusal;
 use paper::Table;
@@ -26,9 +27,9 @@ pub fn times_outcome(t: Table) -> Outcome
     Outcome::Done
 }
 
-// What tolerances ask: the same, and then the deadlines.
-pub fn tolerances_outcome(t: Table) -> Outcome
-    ensures { λ x. ⌜ x ≡ firstOf (tolerancesAsks t) ⌝ }
+// What tolerances and lengths ask alike: the same, and then the deadlines.
+pub fn deadlines_outcome(t: Table) -> Outcome
+    ensures { λ x. ⌜ x ≡ firstOf (deadlinesAsks t) ⌝ }
 {
     let outcome = times_outcome(t);
     match outcome {

@@ -129,3 +129,20 @@ module _ (test : ℕ → Bool) where
       last : (t : Bool) → test n ≡ t → ((j : ℕ) → j < n → test j ≡ false) → ((j : ℕ) → j < suc n → test j ≡ false) ⊎ ((k : ℕ) × (k < suc n) × (test k ≡ true) × ((j : ℕ) → j < k → test j ≡ false))
       last true e none = inr (n, omega arith, e, none)
       last false e none = inl (λ j l. ⊎-elim (λ q. rw q e) (λ (h : j < n). none j h) (eq-or-lt-of-le {n = j} {m = n} (omega arith)))
+
+  -- what the number found says: none passes where it is 0, else the k below it does, and none before it
+  pub none-passes : (n : ℕ) → lowest n test ≡ 0 → (j : ℕ) → j < n → test j ≡ false
+  none-passes n e j l =
+      ⊎-elim
+      (λ none. none j l)
+      (λ r. absurd (omega (arith, lowest-found n (r .0) (r .1) (r .2) (r .3))))
+      (lowest-either n)
+
+  pub first-passes : (n k : ℕ) → lowest n test ≡ suc k → (k < n) × (test k ≡ true) × ((j : ℕ) → j < k → test j ≡ false)
+  first-passes n k e =
+      ⊎-elim
+      (λ none. absurd (omega (arith, lowest-none n none)))
+      (λ r.
+      let z : r .0 ≡ k = omega (arith, lowest-found n (r .0) (r .1) (r .2) (r .3)) in
+      (omega (arith, r .1), rw (← z) (r .2), λ j l. r .3 j (omega arith)))
+      (lowest-either n)

@@ -7,7 +7,7 @@ use Rattle.paper.specs.Numbers.{perTask, eachOnce, thresholdsHold}
 use Rattle.paper.specs.Seal.{sealBit, sealBits, sealByte, sealFrom, sealOf}
 use Rattle.paper.specs.Regions.{regionsHold, allRegionsHold}
 use Rattle.paper.specs.Analysis.{least, before, by, load, blocks, blocking, standing, levelSum, levelOf, startSum, startOf, finishSum, finishOf, finishFrom, job, later, worst, worstFrom, response, reaches, firstReaching, worstJob, withJob, within, taskPasses, passes}
-use Rattle.paper.specs.Lengths.{larger, smaller, largest, slack, tolerance, lowestBelowZero, leastOf, allowed, lengthOf, regionsFit, allFit}
+use Rattle.paper.specs.Lengths.{larger, smaller, largest, slack, tolerance, noInstant, lowestNoInstant, lowestBelowZero, leastOf, allowed, lengthOf, regionsFit, allFit}
 use Rattle.paper.specs.Rows.{placeOf, rowAssignment, rowHolds}
 use Rattle.paper.specs.Figures.{Figure, Came, comesOut, figures, numbered, join, those, passingRows}
 
@@ -19,7 +19,7 @@ foretold fs = map (λ f. f .comes) fs
 
 -- every figure of the table, as one statement
 pub figures-hold : came-out figures ≡ foretold figures
-unfolding every listTo lowest sumTo maxTo perTask eachOnce thresholdsHold regionsHold allRegionsHold least before by load blocks blocking standing levelSum levelOf startSum startOf finishSum finishOf finishFrom job later worst worstFrom response reaches firstReaching worstJob withJob within taskPasses passes larger smaller largest slack tolerance lowestBelowZero leastOf allowed lengthOf regionsFit allFit placeOf rowAssignment rowHolds numbered join those passingRows
+unfolding every listTo lowest sumTo maxTo perTask eachOnce thresholdsHold regionsHold allRegionsHold least before by load blocks blocking standing levelSum levelOf startSum startOf finishSum finishOf finishFrom job later worst worstFrom response reaches firstReaching worstJob withJob within taskPasses passes larger smaller largest slack tolerance noInstant lowestNoInstant lowestBelowZero leastOf allowed lengthOf regionsFit allFit placeOf rowAssignment rowHolds numbered join those passingRows
 figures-hold = refl
 
 -- CRC-16/IBM-3740 over the digits 1 to 9

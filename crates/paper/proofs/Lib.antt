@@ -1,6 +1,7 @@
 pub mod Tests
 pub mod Asks
 pub mod Searched
+pub mod Solutions
 pub mod Figures
 pub mod Asked
 pub mod Responses
@@ -19,4 +20,5 @@ pub mod Costs
 pub mod Sizes
 pub mod Counts
 pub mod Plates
+pub mod Jitters
 pub mod Places

@@ -28,6 +28,7 @@ pub record-places : (f : List ℕ) (k : ℕ) → recordIn f k ≡ record {
   first = field f (recordAt k + 69) 7;
   count = field f (recordAt k + 76) 7;
   name = field f (recordAt k + 83) 7;
+  jitter = 0;
 }
 record-places f k = simp add-assoc
 

@@ -1,4 +1,4 @@
--- Response times by the paper's own words: R is the largest of the signed differences F − k·T(i), and the job that is named is the first that reaches it; R ≤ D says of each job that F ≤ k·T(i) + D.
+-- Response times by the paper's own words: R is the largest of the signed differences F + J(i) − k·T(i), and the job that is named is the first that reaches it; R ≤ D says of each job that F + J(i) ≤ k·T(i) + D.
 use Prim.Native.Nat.{ℕ, zero, suc, _+_, _-_, _*_, _≤_, _<_, zero-le, max}
 use mathlib.Core.Path.{_≡_, refl, ap, ap₂, sym, subst, _∙_}
 use mathlib.Core.Bool.{Bool, true, false, true≢false, cond}
@@ -17,9 +17,9 @@ use Rattle.paper.specs.declared.Time.the-variants.{At, Beyond}
 use Rattle.paper.proofs.Searched.{searched}
 use Rattle.paper.proofs.Extremes.{lowest-found, lowest-either}
 
--- F − k·T(i), a signed number
+-- F + J(i) − k·T(i), a signed number
 abbrev pub difference : Tasks → ℕ → ℕ → ℕ → ℤ
-difference y i k f = subℕ f (k * y .t i)
+difference y i k f = subℕ (f + y .j i) (k * y .t i)
 
 -- L exists, every job of the active period has an F, no signed difference lies above r, that of job k, one of them, is r, and that of each job before it lies below r
 pub record Largest (y : Tasks) (s : Standing) (i r k : ℕ) : Type 0 where
@@ -33,11 +33,11 @@ pub record Largest (y : Tasks) (s : Standing) (i r k : ℕ) : Type 0 where
   pub reached : difference y i k f ≡ pos r
   pub first : (q g : ℕ) → q < k → job y s i q ≡ At g → difference y i q g <ℤ pos r
 
--- job k has an F, and F ≤ k·T(i) + d
+-- job k has an F, and F + J(i) ≤ k·T(i) + d
 pub record InTime (y : Tasks) (s : Standing) (i d k : ℕ) : Type 0 where
   pub f : ℕ
   pub finish : job y s i k ≡ At f
-  pub ok : f ≤ k * y .t i + d
+  pub ok : f + y .j i ≤ k * y .t i + d
 
 -- L exists, and every job of the active period is in time
 pub record AllInTime (y : Tasks) (s : Standing) (i d : ℕ) : Type 0 where
@@ -105,10 +105,10 @@ is-signed a b r e = go (ltb a b) e
 module _ (y : Tasks) (s : Standing) (i : ℕ) where
   -- of the worst over m jobs: every job ends, none is later, and one reaches it unless it is 0
   record Over (m r : ℕ) : Type 0 where
-    pub ends : (k : ℕ) → k < m → (f : ℕ) × (job y s i k ≡ At f) × (f - k * y .t i ≤ r)
-    pub reached : (r ≡ 0) ⊎ ((k : ℕ) × (k < m) × (f : ℕ) × (job y s i k ≡ At f) × (f - k * y .t i ≡ r))
+    pub ends : (k : ℕ) → k < m → (f : ℕ) × (job y s i k ≡ At f) × (f + y .j i - k * y .t i ≤ r)
+    pub reached : (r ≡ 0) ⊎ ((k : ℕ) × (k < m) × (f : ℕ) × (job y s i k ≡ At f) × (f + y .j i - k * y .t i ≡ r))
 
-  over-more : (m r : ℕ) (f : ℕ) → Over m r → job y s i m ≡ At f → Over (suc m) (max r (f - m * y .t i))
+  over-more : (m r : ℕ) (f : ℕ) → Over m r → job y s i m ≡ At f → Over (suc m) (max r (f + y .j i - m * y .t i))
   over-more m r f w e =
       record {
         ends =
@@ -118,10 +118,10 @@ module _ (y : Tasks) (s : Standing) (i : ℕ) where
             (λ q. (f, rw q e, rw q (omega arith)))
             (λ q. let v = w .ends k q in (v .0, v .1, omega (arith, v .2)))
             (eq-or-lt-of-le h);
-        reached = go (decLe r (f - m * y .t i)) (w .reached);
+        reached = go (decLe r (f + y .j i - m * y .t i)) (w .reached);
       }
     where
-      go : Dec (r ≤ f - m * y .t i) → (r ≡ 0) ⊎ ((k : ℕ) × (k < m) × (f : ℕ) × (job y s i k ≡ At f) × (f - k * y .t i ≡ r)) → (max r (f - m * y .t i) ≡ 0) ⊎ ((k : ℕ) × (k < suc m) × (g : ℕ) × (job y s i k ≡ At g) × (g - k * y .t i ≡ max r (f - m * y .t i)))
+      go : Dec (r ≤ f + y .j i - m * y .t i) → (r ≡ 0) ⊎ ((k : ℕ) × (k < m) × (f : ℕ) × (job y s i k ≡ At f) × (f + y .j i - k * y .t i ≡ r)) → (max r (f + y .j i - m * y .t i) ≡ 0) ⊎ ((k : ℕ) × (k < suc m) × (g : ℕ) × (job y s i k ≡ At g) × (g + y .j i - k * y .t i ≡ max r (f + y .j i - m * y .t i)))
       go (yes h) v = inr (m, omega arith, f, e, omega arith)
       go (no h) (inl z) = absurd (omega arith)
       go (no h) (inr v) = inr (v .0, omega (arith, v .1), v .2, v .3, omega (arith, v .4))
@@ -131,8 +131,8 @@ module _ (y : Tasks) (s : Standing) (i : ℕ) where
   over zero r e = record { ends = λ k l. absurd (omega arith); reached = inl (cc) }
   over (suc m) r e = go (worst y s i m) (job y s i m) refl (over m) e
     where
-      go : (w v : Time) → job y s i m ≡ v → ((q : ℕ) → w ≡ At q → Over m q) → later w v (m * y .t i) ≡ At r → Over (suc m) r
-      go (At q) (At f) ef o h = let z : max q (f - m * y .t i) ≡ r = cc in rw z at (over-more m q f (o q refl) ef)
+      go : (w v : Time) → job y s i m ≡ v → ((q : ℕ) → w ≡ At q → Over m q) → later w v (y .j i) (m * y .t i) ≡ At r → Over (suc m) r
+      go (At q) (At f) ef o h = let z : max q (f + y .j i - m * y .t i) ≡ r = cc in rw z at (over-more m q f (o q refl) ef)
       go (At q) Beyond ef o h = let z : _≡_ {A = ℕ} 0 1 = cc in absurd (omega arith)
       go Beyond v ef o h = let z : _≡_ {A = ℕ} 0 1 = cc in absurd (omega arith)
 
@@ -143,7 +143,7 @@ module _ (y : Tasks) (s : Standing) (i : ℕ) where
   ended (suc m) h =
       let w = ended m (λ k l. h k (omega arith)) in
       let f = h m (omega arith) in
-      (max (w .0) (f .0 - m * y .t i), rw (w .1, f .1))
+      (max (w .0) (f .0 + y .j i - m * y .t i), rw (w .1, f .1))
 
   -- job 0 is among them, and so the worst is above 0
   worst-positive : (m r : ℕ) → 0 < m → worst y s i m ≡ At r → 1 ≤ r
@@ -156,8 +156,8 @@ module _ (y : Tasks) (s : Standing) (i : ℕ) where
     pub among : k < m
     pub f : ℕ
     pub finish : job y s i k ≡ At f
-    pub here : f - k * y .t i ≡ r
-    pub first : (q g : ℕ) → q < k → job y s i q ≡ At g → g - q * y .t i ≡ r → ⊥
+    pub here : f + y .j i - k * y .t i ≡ r
+    pub first : (q g : ℕ) → q < k → job y s i q ≡ At g → g + y .j i - q * y .t i ≡ r → ⊥
 
   reached-is : (m r k : ℕ) → Reached m r k → firstReaching y s i m (At r) ≡ k
   unfolding firstReaching reaches
@@ -165,7 +165,7 @@ module _ (y : Tasks) (s : Standing) (i : ℕ) where
       let z : suc k - 1 ≡ k = omega arith in
       ap (λ (x : ℕ). x - 1) (lowest-found _ m k (w .among) (rw (w .finish) (eq-eqb _ _ (w .here))) (λ q l. none q l (job y s i q) refl)) ∙ z
     where
-      none : (q : ℕ) → q < k → (v : Time) → job y s i q ≡ v → reaches v (q * y .t i) r ≡ false
+      none : (q : ℕ) → q < k → (v : Time) → job y s i q ≡ v → reaches v (y .j i) (q * y .t i) r ≡ false
       none q l (At g) e = ne-eqb _ _ (w .first q g l e)
       none q l Beyond e = refl
 
@@ -175,7 +175,7 @@ module _ (y : Tasks) (s : Standing) (i : ℕ) where
   some-reached m r h e = ⊎-elim (λ none. absurd (nobody none)) (λ v. (v .0, made v)) (lowest-either test m)
     where
       test : ℕ → Bool
-      test k = reaches (job y s i k) (k * y .t i) r
+      test k = reaches (job y s i k) (y .j i) (k * y .t i) r
 
       nobody : ((k : ℕ) → k < m → test k ≡ false) → ⊥
       nobody none =
@@ -184,13 +184,13 @@ module _ (y : Tasks) (s : Standing) (i : ℕ) where
           (λ v. true≢false (sym (rw (v .3) (eq-eqb _ _ (v .4))) ∙ none (v .0) (v .1)))
           (over m r e .reached)
 
-      here : (v : Time) (released : ℕ) → reaches v released r ≡ true → (f : ℕ) × (v ≡ At f) × (f - released ≡ r)
-      here (At f) released t = (f, refl, eqb-true _ _ t)
-      here Beyond released t = absurd (true≢false (sym t))
+      here : (v : Time) (jitter released : ℕ) → reaches v jitter released r ≡ true → (f : ℕ) × (v ≡ At f) × (f + jitter - released ≡ r)
+      here (At f) jitter released t = (f, refl, eqb-true _ _ t)
+      here Beyond jitter released t = absurd (true≢false (sym t))
 
       made : (v : (k : ℕ) × (k < m) × (test k ≡ true) × ((j : ℕ) → j < k → test j ≡ false)) → Reached m r (v .0)
       made v =
-          let u = here (job y s i (v .0)) (v .0 * y .t i) (v .2) in
+          let u = here (job y s i (v .0)) (y .j i) (v .0 * y .t i) (v .2) in
           record {
             among = v .1;
             f = u .0;
@@ -206,24 +206,24 @@ module _ (y : Tasks) (s : Standing) (i : ℕ) where
 
   -- one job more: it takes the place of the first that reached the worst only where it is worse
   pub first-more : (m q f : ℕ) → worst y s i m ≡ At q → job y s i m ≡ At f
-      → cond (ltb q (f - m * y .t i)) m (firstReaching y s i m (At q)) ≡ firstReaching y s i (suc m) (At (max q (f - m * y .t i)))
-  first-more m q f e ef = go (ltb q (f - m * y .t i)) refl
+      → cond (ltb q (f + y .j i - m * y .t i)) m (firstReaching y s i m (At q)) ≡ firstReaching y s i (suc m) (At (max q (f + y .j i - m * y .t i)))
+  first-more m q f e ef = go (ltb q (f + y .j i - m * y .t i)) refl
     where
-      started : (ltb q (f - m * y .t i) ≡ false) → 0 < m
+      started : (ltb q (f + y .j i - m * y .t i) ≡ false) → 0 < m
       started t = any m refl
         where
           any : (n : ℕ) → m ≡ n → 0 < n
           any zero z =
-              let l = ltb-false q (f - m * y .t i) t in
+              let l = ltb-false q (f + y .j i - m * y .t i) t in
               let p = finish-positive y s i m f ef in
               let v : m * y .t i ≡ 0 = ap (λ (x : ℕ). x * y .t i) z ∙ zero-mul (y .t i) in
               absurd (⊎-elim (λ (u : q ≡ 0). omega arith) (λ u. omega (arith, u .1)) (over m q e .reached))
           any (suc n) z = omega arith
 
-      go : (v : Bool) → ltb q (f - m * y .t i) ≡ v → cond v m (firstReaching y s i m (At q)) ≡ firstReaching y s i (suc m) (At (max q (f - m * y .t i)))
+      go : (v : Bool) → ltb q (f + y .j i - m * y .t i) ≡ v → cond v m (firstReaching y s i m (At q)) ≡ firstReaching y s i (suc m) (At (max q (f + y .j i - m * y .t i)))
       go true t =
-          let l = ltb-true q (f - m * y .t i) t in
-          sym (reached-is (suc m) (max q (f - m * y .t i)) m (record {
+          let l = ltb-true q (f + y .j i - m * y .t i) t in
+          sym (reached-is (suc m) (max q (f + y .j i - m * y .t i)) m (record {
             among = omega arith;
             f = f;
             finish = ef;
@@ -231,9 +231,9 @@ module _ (y : Tasks) (s : Standing) (i : ℕ) where
             first = λ k g h eg z. let u = over m q e .ends k h in let p : u .0 ≡ g = cc (u .1) in omega (arith, rw p at (u .2));
           }))
       go false t =
-          let l = ltb-false q (f - m * y .t i) t in
+          let l = ltb-false q (f + y .j i - m * y .t i) t in
           let w = first-reached m q (started t) e in
-          let z : max q (f - m * y .t i) ≡ q = omega arith in
+          let z : max q (f + y .j i - m * y .t i) ≡ q = omega arith in
           sym (ap (λ r. firstReaching y s i (suc m) (At r)) z ∙ reached-is (suc m) q _ (record {
             among = omega (arith, w .among);
             f = w .f;
@@ -259,7 +259,7 @@ module _ (y : Tasks) (s : Standing) (i : ℕ) where
   unfolding response worstFrom
   level-there r e el = let z : _≡_ {A = ℕ} 0 1 = cc in omega arith
 
-  -- R is the largest signed difference F − k·T(i) over the jobs k below ceil(L/T(i)), and the job beside it the first whose difference it is
+  -- R is the largest signed difference F + J(i) − k·T(i) over the jobs k below ceil((L + J(i))/T(i)), and the job beside it the first whose difference it is
   pub response-largest : 1 ≤ y .t i → (r k : ℕ) → (withJob y s i ≡ record { time = At r; job = k }) ↔ Largest y s i r k
   response-largest ht r k = (λ e. says (levelOf y s) refl e, gives)
     where
@@ -276,17 +276,17 @@ module _ (y : Tasks) (s : Standing) (i : ℕ) where
             l = l;
             level = el;
             ends = λ q h. let v = w .ends q h in (v .0, v .1);
-            most = λ q g h eg. let v = w .ends q h in let o : v .0 ≡ g = cc (v .1) in signed-le g (q * y .t i) r (rw o at (v .2));
+            most = λ q g h eg. let v = w .ends q h in let o : v .0 ≡ g = cc (v .1) in signed-le (g + y .j i) (q * y .t i) r (rw o at (v .2));
             among = u .among;
             f = u .f;
             finish = u .finish;
-            reached = signed-is (u .f) (k * y .t i) r p (u .here);
+            reached = signed-is (u .f + y .j i) (k * y .t i) r p (u .here);
             first =
                 λ q g h eg.
                 let v = w .ends q (omega (arith, u .among)) in
                 let o : v .0 ≡ g = cc (v .1) in
-                let below : g - q * y .t i ≤ r = rw o at (v .2) in
-                signed-lt g (q * y .t i) r (omega (arith, u .first q g h eg));
+                let below : g + y .j i - q * y .t i ≤ r = rw o at (v .2) in
+                signed-lt (g + y .j i) (q * y .t i) r (omega (arith, u .first q g h eg));
           }
       says Beyond el e = absurd (level-there r (time-is r k e) el)
 
@@ -297,9 +297,9 @@ module _ (y : Tasks) (s : Standing) (i : ℕ) where
           let w = over m (e .0) (e .1) in
           let u = w .ends k (g .among) in
           let q : u .0 ≡ g .f = cc (u .1, g .finish) in
-          let low : r ≤ e .0 = omega (arith, rw q at (u .2), is-signed (g .f) (k * y .t i) r (g .reached)) in
+          let low : r ≤ e .0 = omega (arith, rw q at (u .2), is-signed (g .f + y .j i) (k * y .t i) r (g .reached)) in
           let high : e .0 ≤ r =
-          ⊎-elim (λ z. omega arith) (λ z. omega (arith, z .4, le-signed (z .2) (z .0 * y .t i) r (g .most (z .0) (z .2) (z .1) (z .3)))) (w .reached) in
+          ⊎-elim (λ z. omega arith) (λ z. omega (arith, z .4, le-signed (z .2 + y .j i) (z .0 * y .t i) r (g .most (z .0) (z .2) (z .1) (z .3)))) (w .reached) in
           let z : e .0 ≡ r = omega arith in
           let ew : worst y s i m ≡ At r = e .1 ∙ ap At z in
           let p = worst-positive m r (omega (arith, g .among)) ew in
@@ -308,8 +308,8 @@ module _ (y : Tasks) (s : Standing) (i : ℕ) where
             among = g .among;
             f = g .f;
             finish = g .finish;
-            here = is-signed (g .f) (k * y .t i) r (g .reached);
-            first = λ q v h ev x. omega (arith, lt-signed v (q * y .t i) r p (g .first q v h ev));
+            here = is-signed (g .f + y .j i) (k * y .t i) r (g .reached);
+            first = λ q v h ev x. omega (arith, lt-signed (v + y .j i) (q * y .t i) r p (g .first q v h ev));
           }))
 
   -- beside "beyond" the job is 0
@@ -323,32 +323,32 @@ module _ (y : Tasks) (s : Standing) (i : ℕ) where
       none Beyond v h = refl
 
   -- one job more
-  record Next (w v : Time) (released d : ℕ) : Type 0 where
+  record Next (w v : Time) (jitter released d : ℕ) : Type 0 where
     pub first : within w d ≡ true
     pub f : ℕ
     pub finish : v ≡ At f
-    pub ok : f ≤ released + d
+    pub ok : f + jitter ≤ released + d
 
-  later-says : (w v : Time) (released d : ℕ) → within (later w v released) d ≡ true → Next w v released d
+  later-says : (w v : Time) (jitter released d : ℕ) → within (later w v jitter released) d ≡ true → Next w v jitter released d
   unfolding within later
-  later-says (At r) (At f) released d e =
-      let h = leb-true (max r (f - released)) d e in
+  later-says (At r) (At f) jitter released d e =
+      let h = leb-true (max r (f + jitter - released)) d e in
       record { first = le-leb r d (omega arith); f = f; finish = refl; ok = omega arith }
-  later-says (At r) Beyond released d e = absurd (true≢false (sym e))
-  later-says Beyond v released d e = absurd (true≢false (sym e))
+  later-says (At r) Beyond jitter released d e = absurd (true≢false (sym e))
+  later-says Beyond v jitter released d e = absurd (true≢false (sym e))
 
-  later-gives : (w v : Time) (released d : ℕ) → Next w v released d → within (later w v released) d ≡ true
+  later-gives : (w v : Time) (jitter released d : ℕ) → Next w v jitter released d → within (later w v jitter released) d ≡ true
   unfolding within later
-  later-gives (At r) v released d n =
-      rw (n .finish) (le-leb (max r (n .f - released)) d (omega (arith, leb-true r d (n .first), n .ok)))
-  later-gives Beyond v released d n = n .first
+  later-gives (At r) v jitter released d n =
+      rw (n .finish) (le-leb (max r (n .f + jitter - released)) d (omega (arith, leb-true r d (n .first), n .ok)))
+  later-gives Beyond v jitter released d n = n .first
 
   module _ (d : ℕ) where
     worst-says : (m : ℕ) → within (worst y s i m) d ≡ true → (k : ℕ) → k < m → InTime y s i d k
     unfolding worst
     worst-says zero e k l = absurd (omega arith)
     worst-says (suc m) e k l =
-        let n = later-says _ _ _ _ e in
+        let n = later-says _ _ _ _ _ e in
         let h : k ≤ m = omega arith in
         ⊎-elim
         (λ q. rw q (record { f = n .f; finish = n .finish; ok = n .ok }))
@@ -360,13 +360,13 @@ module _ (y : Tasks) (s : Standing) (i : ℕ) where
     worst-gives zero h = le-leb 0 d zero-le
     worst-gives (suc m) h =
         let j = h m (omega arith) in
-        later-gives _ _ _ _ (record { first = worst-gives m (λ k l. h k (omega arith)); f = j .f; finish = j .finish; ok = j .ok })
+        later-gives _ _ _ _ _ (record { first = worst-gives m (λ k l. h k (omega arith)); f = j .f; finish = j .finish; ok = j .ok })
 
     -- the worst of the jobs below m is within d exactly when each of them is in time
     pub worst-jobs : (m : ℕ) → (within (worst y s i m) d ≡ true) ↔ ((k : ℕ) → k < m → InTime y s i d k)
     worst-jobs m = (worst-says m, worst-gives m)
 
-    -- R exists and R ≤ d exactly when L exists and every job k below ceil(L/T(i)) has an F with F ≤ k·T(i) + d
+    -- R exists and R ≤ d exactly when L exists and every job k below ceil((L + J(i))/T(i)) has an F with F + J(i) ≤ k·T(i) + d
     pub within-jobs : (within (response y s i) d ≡ true) ↔ AllInTime y s i d
     unfolding response worstFrom within
     within-jobs = (says (levelOf y s) refl, λ a. rw (a .level) (worst-gives (before y (a .l) i) (a .jobs)))

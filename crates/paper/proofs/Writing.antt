@@ -7,7 +7,7 @@ use Prim.Native.Nat.{ℕ, _≤_}
 use borrow.Author.Tests.{leb-true, ltb-false, not-false, le-leb, le-ltb}
 use lib.Dec.{leb}
 use lib.ListN.{length}
-use Rattle.paper.specs.Numbers.{mostTasks, mostWords, mostCabinet, tasksInRange, countsInRange, recordsInRange, assignmentHolds}
+use Rattle.paper.specs.Numbers.{mostTasks, mostWords, mostCabinet, tasksInRange, countsInRange, recordsInRange, anyJitter, assignmentHolds}
 use Rattle.paper.specs.File.{fileLength}
 use Rattle.paper.specs.Regions.{allRegionsHold}
 use Rattle.paper.specs.Refusals.{blank, writeAsks}
@@ -28,6 +28,7 @@ pub record Taken (t : Table) (cabinet line : ℕ) (own catalogue : List ℕ) (ro
   pub ranges : recordsInRange (t .records) (t .n) ≡ true
   pub assignment : assignmentHolds (t .records) (t .n) ≡ true
   pub regions : allRegionsHold (t .records) (t .n) own catalogue ≡ true
+  pub unjittered : anyJitter (t .records) (t .n) ≡ false
   pub fits : fileLength (t .n) (length own) ≤ room
 
 module _ (t : Table) (cabinet line : ℕ) (own catalogue : List ℕ) (room : ℕ) where
@@ -38,6 +39,7 @@ module _ (t : Table) (cabinet line : ℕ) (own catalogue : List ℕ) (room : ℕ
       let a9 = a18 .1 in
       let a10 = a9 .1 in
       let a11 = a10 .1 in
+      let a19 = a11 .1 in
       let counts = both (tasksInRange (t .n)) (leb (length own) mostWords) (not-false (countsInRange (t .n) (length own)) (a5 .0)) in
       let tasks = within 1 mostTasks (t .n) (counts .0) in
       let numbers = both (leb cabinet mostCabinet) (recordsInRange (t .records) (t .n)) (not-false _ (a9 .0)) in
@@ -50,7 +52,8 @@ module _ (t : Table) (cabinet line : ℕ) (own catalogue : List ℕ) (room : ℕ
         ranges = numbers .1;
         assignment = not-false _ (a10 .0);
         regions = not-false _ (a11 .0);
-        fits = ltb-false room (fileLength (t .n) (length own)) (a11 .1 .0);
+        unjittered = a19 .0;
+        fits = ltb-false room (fileLength (t .n) (length own)) (a19 .1 .0);
       }
 
   pub write-done : Taken t cabinet line own catalogue room → writeOutcome t cabinet line own catalogue room ≡ Done
@@ -61,6 +64,7 @@ module _ (t : Table) (cabinet line : ℕ) (own catalogue : List ℕ) (room : ℕ
       and (rw (le-leb cabinet mostCabinet (w .cabinets)) (ap not (w .ranges)))
       and ap not (w .assignment)
       and ap not (w .regions)
+      and w .unjittered
       and le-ltb room (fileLength (t .n) (length own)) (w .fits)
       and tt)
 

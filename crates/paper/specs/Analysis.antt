@@ -1,4 +1,4 @@
--- Document 01, "The analysis": response times; blocking on a ticking controller by document 02, item 5, and which job was worst by item 4. Task i is record i + 1.
+-- Document 01, "The analysis": response times; by document 02 blocking on a ticking controller (item 5), which job was worst (item 4) and release jitter (item 8). Task i is record i + 1.
 use Prim.Native.Nat.{ℕ, zero, suc, _+_, _-_, _*_, _/_, max}
 use mathlib.Core.Bool.{Bool, true, false, _&&_, cond}
 use mathlib.Core.List.{List}
@@ -10,27 +10,30 @@ use Rattle.paper.specs.declared.Response.{Response}
 use Rattle.paper.specs.declared.Time.{Time}
 use Rattle.paper.specs.declared.Time.the-variants.{At, Beyond}
 
--- cost C, period T, deadline D of each of n tasks
+-- cost C, period T, deadline D, jitter J of each of n tasks
 pub record Tasks : Type 0 where
   pub n : ℕ
   pub c : ℕ → ℕ
   pub t : ℕ → ℕ
   pub d : ℕ → ℕ
+  pub j : ℕ → ℕ
 
 abbrev pub tasksOf : List Record → ℕ → Tasks
-tasksOf rs n = record { n = n; c = λ j. rec rs j .cost; t = λ j. rec rs j .period; d = λ j. rec rs j .deadline }
+tasksOf rs n =
+    record { n = n; c = λ k. rec rs k .cost; t = λ k. rec rs k .period; d = λ k. rec rs k .deadline; j = λ k. rec rs k .jitter }
 
 -- "the smallest x with ..": the first of from, from + 1, .., from + count - 1 that passes the test; Beyond where none does
 unfoldable pub least : (ℕ → Bool) → ℕ → ℕ → Time
 least test from zero = Beyond
 least test from (suc count) = elim (test from) [ true ↦ At from | false ↦ least test (suc from) count ]
 
--- how many jobs of j have been asked for before x, ceil(x/T(j)), and how many by x, 1 + floor(x/T(j))
+-- In sums, an argument x of a ceiling or floor becomes x + J(j): how many jobs of j may have been asked for before x, ceil((x + J(j))/T(j)),
+-- and how many by x, 1 + floor((x + J(j))/T(j))
 unfoldable pub before : Tasks → ℕ → ℕ → ℕ
-before y x j = ceilDiv x (y .t j)
+before y x j = ceilDiv (x + y .j j) (y .t j)
 
 unfoldable pub by : Tasks → ℕ → ℕ → ℕ
-by y x j = 1 + x / y .t j
+by y x j = 1 + (x + y .j j) / y .t j
 
 -- sum over the tasks j of a set of count(j)·C(j)
 unfoldable pub load : Tasks → (ℕ → Bool) → (ℕ → ℕ) → ℕ
@@ -60,7 +63,7 @@ standing y a i = record {
   cuts = λ j. ltb (a .p j) (a .h i);
 }
 
--- L(i) is the smallest positive L with L = b + sum over p(j) ≤ p(i) of ceil(L/T(j))·C(j), where b is B(i) − 1, or 0
+-- L(i) is the smallest positive L with L = b + sum over p(j) ≤ p(i) of ceil((L + J(j))/T(j))·C(j), where b is B(i) − 1, or 0
 unfoldable pub levelSum : Tasks → Standing → ℕ → ℕ
 levelSum y s x = s .b + load y (s .level) (before y x)
 
@@ -68,7 +71,7 @@ levelSum y s x = s .b + load y (s .level) (before y x)
 unfoldable pub levelOf : Tasks → Standing → Time
 levelOf y s = least (λ x. eqb x (levelSum y s x)) 1 horizon
 
--- Start S: the smallest S ≥ 0 with S = b + k·C(i) + sum over p(j) < p(i) of (1 + floor(S/T(j)))·C(j), blocked or not
+-- Start S: the smallest S ≥ 0 with S = b + k·C(i) + sum over p(j) < p(i) of (1 + floor((S + J(j))/T(j)))·C(j), blocked or not
 unfoldable pub startSum : Tasks → Standing → ℕ → ℕ → ℕ → ℕ
 startSum y s i k x = s .b + k * y .c i + load y (s .above) (by y x)
 
@@ -76,7 +79,7 @@ startSum y s i k x = s .b + k * y .c i + load y (s .above) (by y x)
 unfoldable pub startOf : Tasks → Standing → ℕ → ℕ → Time
 startOf y s i k = least (λ x. eqb x (startSum y s i k x)) 0 (horizon + 1)
 
--- Finish F: the smallest F > S with F = S + C(i) + sum over p(j) < h(i) of (ceil(F/T(j)) − started(j))·C(j), where started(j) is 1 + floor(S/T(j)), blocked or not;
+-- Finish F: the smallest F > S with F = S + C(i) + sum over p(j) < h(i) of (ceil((F + J(j))/T(j)) − started(j))·C(j), where started(j) is 1 + floor((S + J(j))/T(j)), blocked or not;
 -- no such difference is below zero, as F > S
 unfoldable pub finishSum : Tasks → Standing → ℕ → ℕ → ℕ → ℕ
 finishSum y s i start x = start + y .c i + load y (s .cuts) (λ j. before y x j - by y start j)
@@ -93,16 +96,16 @@ finishFrom y s i Beyond = Beyond
 unfoldable pub job : Tasks → Standing → ℕ → ℕ → Time
 job y s i k = finishFrom y s i (startOf y s i k)
 
--- R(i) is the largest F − k·T(i) over jobs k from 0 to ceil(L/T(i)) − 1; if L, any S or any F has no solution at or below H, "beyond".
--- A difference below zero counts as 0 here. L ≥ 1, so job 0 is among them, and its F − 0 is above zero (proofs/Responses.antt has R by the signed differences).
-unfoldable pub later : Time → Time → ℕ → Time
-later (At r) (At f) released = At (max r (f - released))
-later (At r) Beyond released = Beyond
-later Beyond f released = Beyond
+-- R(i) is the largest F + J(i) − k·T(i) over jobs k from 0 to ceil((L + J(i))/T(i)) − 1; if L, any S or any F has no solution at or below H, "beyond".
+-- A difference below zero counts as 0 here. L ≥ 1, so job 0 is among them, and its F + J(i) − 0 is above zero (proofs/Responses.antt has R by the signed differences).
+unfoldable pub later : Time → Time → ℕ → ℕ → Time
+later (At r) (At f) jitter released = At (max r (f + jitter - released))
+later (At r) Beyond jitter released = Beyond
+later Beyond f jitter released = Beyond
 
 unfoldable pub worst : Tasks → Standing → ℕ → ℕ → Time
 worst y s i zero = At 0
-worst y s i (suc k) = later (worst y s i k) (job y s i k) (k * y .t i)
+worst y s i (suc k) = later (worst y s i k) (job y s i k) (y .j i) (k * y .t i)
 
 unfoldable pub worstFrom : Tasks → Standing → ℕ → Time → Time
 worstFrom y s i (At l) = worst y s i (before y l i)
@@ -113,16 +116,16 @@ response y s i = worstFrom y s i (levelOf y s)
 
 -- Beside R stands the number k of the job that reached it; where several reach the same value, the first. Jobs count from 0, `lowest` from 1, so 1 is taken off.
 -- R is above zero, so that a difference below zero, counted as 0, never reaches it.
-unfoldable pub reaches : Time → ℕ → ℕ → Bool
-reaches (At f) released r = eqb (f - released) r
-reaches Beyond released r = false
+unfoldable pub reaches : Time → ℕ → ℕ → ℕ → Bool
+reaches (At f) jitter released r = eqb (f + jitter - released) r
+reaches Beyond jitter released r = false
 
 -- Where R is "beyond" k is 0 and means nothing.
 unfoldable pub firstReaching : Tasks → Standing → ℕ → ℕ → Time → ℕ
-firstReaching y s i count (At r) = lowest count (λ k. reaches (job y s i k) (k * y .t i) r) - 1
+firstReaching y s i count (At r) = lowest count (λ k. reaches (job y s i k) (y .j i) (k * y .t i) r) - 1
 firstReaching y s i count Beyond = 0
 
--- over jobs k from 0 to ceil(L/T(i)) − 1
+-- over jobs k from 0 to ceil((L + J(i))/T(i)) − 1
 unfoldable pub worstJob : Tasks → Standing → ℕ → Time → Time → ℕ
 worstJob y s i (At l) r = firstReaching y s i (before y l i) r
 worstJob y s i Beyond r = 0

@@ -1,5 +1,5 @@
 -- Document 01, "Bench figures": those marked P, as document 02, item 5, changes them, as one table of what is asked and what comes out.
--- The papers' figures would let some wrong rules of items 4 and 5 pass. Those marked "ours" stand beside them for that, worked out by hand.
+-- The papers' figures would let some wrong rules of items 4, 5 and 8 pass. Those marked "ours" stand beside them for that, worked out by hand.
 use Prim.Native.Nat.{ℕ, zero, suc, _+_, _-_}
 use mathlib.Core.Bool.{Bool, true, false, _&&_, cond}
 use mathlib.Core.List.{List, [], _∷_, _++_, map}
@@ -86,7 +86,23 @@ comesOut (firstFinish t k) =
 -- cost, period, deadline; priority, threshold; first region, region count
 abbrev pub task : ℕ → ℕ → ℕ → ℕ → ℕ → ℕ → ℕ → Record
 task c t d p h first count =
-    record { cost = c; period = t; deadline = d; priority = p; threshold = h; source = Own; first = first; count = count; name = 0 }
+    record { cost = c; period = t; deadline = d; priority = p; threshold = h; source = Own; first = first; count = count; name = 0; jitter = 0 }
+
+-- the same with a jitter
+abbrev pub late : ℕ → Record → Record
+late j r =
+    record {
+      cost = r .cost;
+      period = r .period;
+      deadline = r .deadline;
+      priority = r .priority;
+      threshold = r .threshold;
+      source = r .source;
+      first = r .first;
+      count = r .count;
+      name = r .name;
+      jitter = j;
+    }
 
 -- a table of these tasks, the records past them zero
 abbrev pub table : List Record → Table
@@ -127,6 +143,34 @@ tiedFirst = table (task 1 3 3 1 1 0 1 ∷ task 1 8 8 2 1 0 1 ∷ task 1 2 3 3 3 
 -- ours: A (1,6,6), B (2,4,4), C (1,3,5), that order, thresholds 1 1 2. L(C) = 12; C's jobs finish at 4, 8, 11, 12
 abbrev pub tiedLater : Table
 tiedLater = table (task 1 6 6 1 1 0 1 ∷ task 2 4 4 2 1 0 1 ∷ task 1 3 5 3 2 0 1 ∷ [])
+
+-- ours: A (1,3,3) with jitter j, B (3,8,7) with jitter 1, that order, thresholds 1 2
+abbrev pub lateBoth : ℕ → Table
+lateBoth j = table (late j (task 1 3 3 1 1 0 1) ∷ late 1 (task 3 8 7 2 2 1 1) ∷ [])
+
+-- ours: A (2,6,6) with jitter 3, B (1,2,5) with jitter 1, that order, thresholds 1 1. L(B) = 9; B's jobs finish at 3, 6, 7, 8, 9
+abbrev pub lateWorst : Table
+lateWorst = table (late 3 (task 2 6 6 1 1 0 1) ∷ late 1 (task 1 2 5 2 1 0 1) ∷ [])
+
+-- ours: A (8,32,21) below B (14,59,41), B with jitter 50
+abbrev pub tooLate : Table
+tooLate = table (task 8 32 21 2 2 0 1 ∷ late 50 (task 14 59 41 1 1 1 1) ∷ [])
+
+-- ours: A (1,2,2) with jitter 1, B (2,5,5), that order, thresholds 1 2
+abbrev pub lateAbove : Table
+lateAbove = table (late 1 (task 1 2 2 1 1 0 1) ∷ task 2 5 5 2 2 1 1 ∷ [])
+
+-- ours: A (1,3,3) with jitter 2, B (1,2,2), that order, thresholds 1 2
+abbrev pub lateStarted : Table
+lateStarted = table (late 2 (task 1 3 3 1 1 0 1) ∷ task 1 2 2 2 2 1 1 ∷ [])
+
+-- ours: A (1,2,1), B (1,3,3) with jitter 1, that order
+abbrev pub lateBelow : Table
+lateBelow = table (task 1 2 1 1 1 0 1 ∷ late 1 (task 1 3 3 2 2 1 1) ∷ [])
+
+-- ours: A (1,2,1) with jitter 1, alone
+abbrev pub lateAlone : Table
+lateAlone = table (late 1 (task 1 2 1 1 1 0 1) ∷ [])
 
 pub record Figure : Type 0 where
   pub asked : Asked
@@ -186,4 +230,30 @@ figures =
     (responseOf tiedFirst 3 gives number (pos 3)) ∷
     (worstOf tiedFirst 3 gives number (pos 0)) ∷
     (responseOf tiedLater 3 gives number (pos 5)) ∷
-    (worstOf tiedLater 3 gives number (pos 1)) ∷ []
+    (worstOf tiedLater 3 gives number (pos 1)) ∷
+    -- ours, jitter of A 2: A finishes at 1, so R(A) = 3. B would start at 1, but A comes again there: it starts at 2. A comes once more at 4, so B finishes at 6, and R(B) = 7
+    (responseOf (lateBoth 2) 1 gives number (pos 3)) ∷
+    (responseOf (lateBoth 2) 2 gives number (pos 7)) ∷
+    -- for A t is 1 alone, and its tolerance 0. For B t goes up to 6, by when A has come three times: 6 − 3 − 3 = 0. Lengths 1 and 1
+    (toleranceOf (lateBoth 2) 1 gives number (pos 0)) ∷
+    (toleranceOf (lateBoth 2) 2 gives number (pos 0)) ∷
+    (longest (lateBoth 2) 1 gives number (pos 1)) ∷
+    (longest (lateBoth 2) 2 gives number (pos 1)) ∷
+    -- a jitter of A's whole period is refusal 9
+    (responseOf (lateBoth 3) 1 gives refused 9 0) ∷
+    (passing (lateBoth 2) gives says true) ∷
+    -- ours, a later job is the worst: B's differences are 4, 5, 4, 3, 2, so R(B) = 5, by job 1
+    (responseOf lateWorst 2 gives number (pos 5)) ∷
+    (worstOf lateWorst 2 gives number (pos 1)) ∷
+    -- ours, no t for B, and A's tolerance below zero: tolerances name B, lengths and the region check A
+    (toleranceOf tooLate 1 gives refused 16 2) ∷
+    (longest tooLate 1 gives refused 16 1) ∷
+    (fitting tooLate (8 ∷ 14 ∷ []) gives refused 16 1) ∷
+    -- ours, B starts at 2, behind two jobs of A, and the third comes at 3: F = R = 5
+    (responseOf lateAbove 2 gives number (pos 5)) ∷
+    -- ours, B starts at 2, behind two jobs of A, and no third comes by 3: F = R = 3
+    (responseOf lateStarted 2 gives number (pos 3)) ∷
+    -- ours, for B t goes up to 2, by when A, which is in time, has come once: 2 − 1 − 1 = 0
+    (toleranceOf lateBelow 2 gives number (pos 0)) ∷
+    -- ours, a jitter of the whole deadline leaves no t
+    (toleranceOf lateAlone 1 gives refused 16 1) ∷ []

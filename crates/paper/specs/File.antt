@@ -63,7 +63,7 @@ recordValues r =
 abbrev pub recordAt : ℕ → ℕ
 recordAt k = 64 + recordBits * k
 
--- what it says: its fields in that order, and the record that they make
+-- what it says: its fields in that order, and the record that they make. Edition 1 files read as J = 0 (document 02, item 8)
 abbrev pub recordFields : List ℕ → ℕ → List ℕ
 recordFields f k = fieldsAt f (recordAt k) recordWidths
 
@@ -78,6 +78,7 @@ recordFrom vs = record {
   first = getD vs 6 0;
   count = getD vs 7 0;
   name = getD vs 8 0;
+  jitter = 0;
 }
 
 abbrev pub recordIn : List ℕ → ℕ → Record

@@ -1,8 +1,8 @@
--- Document 01, "The analysis": tolerances, lengths (document 02, item 5), the region check. Thresholds play no part.
+-- Document 01, "The analysis": tolerances (with release jitter, document 02, item 8), lengths (item 5), the region check. Thresholds play no part.
 use Prim.Native.Nat.{ℕ, zero, suc, _+_, _-_}
-use mathlib.Core.Bool.{Bool, cond}
+use mathlib.Core.Bool.{Bool, _||_, cond}
 use mathlib.Core.List.{List}
-use lib.Dec.{ltb}
+use lib.Dec.{leb, ltb}
 use lib.IntN.{ℤ, pos, subℕ, _+ℤ_}
 use lib.ListN.{getD}
 use lib.Signed.{leZ, ltZ}
@@ -24,17 +24,25 @@ unfoldable pub largest : (ℕ → ℤ) → ℕ → ℤ
 largest f zero = f 1
 largest f (suc k) = larger (largest f k) (f (suc (suc k)))
 
--- t − C(i) − sum over p(j) < p(i) of ceil(t/T(j))·C(j): a signed number
+-- t − C(i) − sum over p(j) < p(i) of ceil((t + J(j))/T(j))·C(j): a signed number
 unfoldable pub slack : Tasks → Assignment → ℕ → ℕ → ℤ
 slack y a i t = subℕ t (y .c i + load y (λ j. ltb (a .p j) (a .p i)) (before y t))
 
--- Tolerance(i) is the largest of these for t from 1 to D(i), which is at least 1 where a call gets this far (9)
+-- Tolerance(i) is the largest of these for t from 1 to D(i) − J(i)
 unfoldable pub tolerance : Tasks → Assignment → ℕ → ℤ
-tolerance y a i = largest (slack y a i) (y .d i - 1)
+tolerance y a i = largest (slack y a i) (y .d i - y .j i - 1)
 
--- some tolerance is below zero: the number of the lowest such record, or 0
+-- there is no such t: the task falls under refusal 16, and the number above means nothing
+unfoldable pub noInstant : Tasks → ℕ → Bool
+noInstant y i = leb (y .d i) (y .j i)
+
+-- the number of the lowest record with no t, or 0
+unfoldable pub lowestNoInstant : Tasks → ℕ
+lowestNoInstant y = lowest (y .n) (noInstant y)
+
+-- some tolerance is below zero, or there is no t to take it over: the number of the lowest such record, or 0
 unfoldable pub lowestBelowZero : Tasks → Assignment → ℕ
-lowestBelowZero y a = lowest (y .n) (λ k. ltZ (tolerance y a k) (pos 0))
+lowestBelowZero y a = lowest (y .n) (λ k. noInstant y k || ltZ (tolerance y a k) (pos 0))
 
 -- the smallest of x and of f j for each j of a set below n
 unfoldable pub leastOf : ℕ → (ℕ → Bool) → (ℕ → ℤ) → ℤ → ℤ

@@ -2,7 +2,7 @@
 use Prim.Native.Nat.{ℕ, _+_, _-_, _^_}
 use mathlib.Core.Bool.{Bool, not, _&&_, _||_}
 use mathlib.Core.List.{List, _++_}
-use lib.Dec.{leb, eqb}
+use lib.Dec.{leb, ltb, eqb}
 use lib.ListN.{getD, replicate}
 use Rattle.paper.specs.Vocabulary.{every, listTo}
 use Rattle.paper.specs.declared.Source.the-variants.{Own}
@@ -34,7 +34,7 @@ mostCabinet = 2 ^ 24 - 1
 
 -- what the reader leaves past n
 abbrev pub zeroRecord : Record
-zeroRecord = record { cost = 0; period = 0; deadline = 0; priority = 0; threshold = 0; source = Own; first = 0; count = 0; name = 0 }
+zeroRecord = record { cost = 0; period = 0; deadline = 0; priority = 0; threshold = 0; source = Own; first = 0; count = 0; name = 0; jitter = 0 }
 
 -- Records are numbered 1 to n in file order: record k + 1 of a table's list
 abbrev pub rec : List Record → ℕ → Record
@@ -54,12 +54,18 @@ countsInRange n m = tasksInRange n && leb m mostWords
 abbrev pub ticksInRange : ℕ → Bool
 ticksInRange x = leb 1 x && leb x mostTicks
 
+-- each of C, T, D, the name number, and jitter J: 0 to T − 1 (document 02, item 8)
 abbrev pub recordInRange : Record → Bool
-recordInRange r = ticksInRange (r .cost) && (ticksInRange (r .period) && (ticksInRange (r .deadline) && leb (r .name) mostName))
+recordInRange r =
+    ticksInRange (r .cost) && (ticksInRange (r .period) && (ticksInRange (r .deadline) && (leb (r .name) mostName && ltb (r .jitter) (r .period))))
 
 -- Records past n are not looked at
 abbrev pub recordsInRange : List Record → ℕ → Bool
 recordsInRange rs n = every n (λ k. recordInRange (rec rs k))
+
+-- some J isn't 0
+abbrev pub anyJitter : List Record → ℕ → Bool
+anyJitter rs n = not (every n (λ k. eqb (rec rs k .jitter) 0))
 
 -- the numbers f 0 to f (n - 1) are 1 to n, each once: each lies from 1 to n, and no two are the same
 unfoldable pub eachOnce : ℕ → (ℕ → ℕ) → Bool

@@ -1,20 +1,20 @@
--- Document 01, "Numbers a turned-away call returns", with 18 of document 02, item 1: for each call the numbers it asks, in the order asked.
+-- Document 01, "Numbers a turned-away call returns", with 18 and 19 of document 02, items 1 and 8: for each call the numbers it asks, in the order asked.
 use Prim.Native.Nat.{ℕ, _+_, _-_}
 use mathlib.Core.Bool.{Bool, not, _&&_, _||_, cond}
 use mathlib.Core.List.{List, [], _∷_, _++_}
 use lib.Dec.{leb, ltb, eqb}
 use lib.ListN.{length}
 use Rattle.paper.specs.Vocabulary.{every}
-use Rattle.paper.specs.Numbers.{rec, tasksInRange, countsInRange, recordsInRange, mostCabinet, mostName, assigned, unassigned, assignmentHolds}
+use Rattle.paper.specs.Numbers.{rec, tasksInRange, countsInRange, recordsInRange, mostCabinet, mostName, anyJitter, assigned, unassigned, assignmentHolds}
 use Rattle.paper.specs.File.{editionIn, cabinetIn, lineIn, tasksIn, wordsIn, shortest, fileLength, sealed, spareClear, recordsIn, regionWords}
 use Rattle.paper.specs.Regions.{recordRegionsHold, allRegionsHold, nameWidth, nameList, nameStart}
 use Rattle.paper.specs.Analysis.{tasksOf}
-use Rattle.paper.specs.Lengths.{lowestBelowZero}
+use Rattle.paper.specs.Lengths.{lowestNoInstant, lowestBelowZero}
 use Rattle.paper.specs.Rows.{rowSize, rowHolds}
 use Rattle.paper.specs.declared.Record.{Record}
 use Rattle.paper.specs.declared.Table.{Table}
 use Rattle.paper.specs.declared.Refusal.{Refusal}
-use Rattle.paper.specs.declared.Refusal.the-variants.{Short, WrongEdition, WrongCabinet, WrongLine, WrongCounts, WrongLength, WrongSeal, SpareBitSet, OutOfRange, BadAssignment, BadRegions, NoRoom, NoSuchPart, Unassigned, DeadlineAbovePeriod, ToleranceBelowZero, BadRow, BlankPlate}
+use Rattle.paper.specs.declared.Refusal.the-variants.{Short, WrongEdition, WrongCabinet, WrongLine, WrongCounts, WrongLength, WrongSeal, SpareBitSet, OutOfRange, BadAssignment, BadRegions, NoRoom, NoSuchPart, Unassigned, DeadlineAbovePeriod, ToleranceBelowZero, BadRow, BlankPlate, JitterInEditionOne}
 use Rattle.paper.specs.declared.Outcome.{Outcome}
 use Rattle.paper.specs.declared.Outcome.the-variants.{Done, Refused}
 
@@ -38,6 +38,7 @@ numberOf DeadlineAbovePeriod = 15
 numberOf (ToleranceBelowZero k) = 16
 numberOf BadRow = 17
 numberOf BlankPlate = 18
+numberOf JitterInEditionOne = 19
 
 abbrev pub recordOf : Refusal → ℕ
 recordOf Short = 0
@@ -58,12 +59,14 @@ recordOf DeadlineAbovePeriod = 0
 recordOf (ToleranceBelowZero k) = k
 recordOf BadRow = 0
 recordOf BlankPlate = 0
+recordOf JitterInEditionOne = 0
 
 abbrev pub Asks : Type 0
 Asks = List (Refusal × Bool)
 
 -- Each list stands in the order asked, and its first ask that applies is the refusal. Where the order rises that is the rule of document 01: the lowest applicable number wins.
--- It rises but for the regions of a record (5, 13, 11), and but for 18, the exception of document 02, item 1: asked straight after 2 when reading, straight after 5 when writing.
+-- It rises but for the regions of a record (5, 13, 11), and but for two exceptions of document 02: 18 (item 1), asked straight after 2 when reading, straight after 5 when writing,
+-- and 19 (item 8), asked between 11 and 12 when writing.
 abbrev pub firstOf : Asks → Outcome
 firstOf [] = Done
 firstOf (ask ∷ asks) = cond (ask .1) (Refused (ask .0)) (firstOf asks)
@@ -79,7 +82,7 @@ wrongCounts n m = (WrongCounts, not (countsInRange n m))
 abbrev pub blank : ℕ → ℕ → Bool
 blank cabinet line = eqb cabinet 0 || eqb line 0
 
--- C, T, D, name number outside its range
+-- C, T, D, name number or J outside its range
 abbrev pub outOfRange : List Record → ℕ → Refusal × Bool
 outOfRange rs n = (OutOfRange, not (recordsInRange rs n))
 
@@ -107,10 +110,15 @@ isUnassigned t = (Unassigned, unassigned (t .records) (t .n))
 abbrev pub deadlineAbovePeriod : Table → Refusal × Bool
 deadlineAbovePeriod t = (DeadlineAbovePeriod, not (every (t .n) (λ k. leb (rec (t .records) k .deadline) (rec (t .records) k .period))))
 
--- some tolerance is below zero; names the lowest such record
+-- 16 names the lowest record of which it is so; none has the number 0
 abbrev pub belowZeroAt : ℕ → Refusal × Bool
 belowZeroAt record' = (ToleranceBelowZero record', ltb 0 record')
 
+-- there is no t that its tolerance could be taken over
+abbrev pub toleranceOverNone : Table → Refusal × Bool
+toleranceOverNone t = belowZeroAt (lowestNoInstant (tasksOf (t .records) (t .n)))
+
+-- that, or its tolerance is below zero
 abbrev pub toleranceBelowZero : Table → Refusal × Bool
 toleranceBelowZero t = belowZeroAt (lowestBelowZero (tasksOf (t .records) (t .n)) (assigned (t .records)))
 
@@ -138,7 +146,7 @@ recordAsks f cabinet line catalogue number = fileAsks f cabinet line catalogue +
 abbrev pub readAsks : List ℕ → ℕ → ℕ → List ℕ → ℕ → Asks
 readAsks f cabinet line catalogue room = fileAsks f cabinet line catalogue ++ (noRoom room (wordsIn f) ∷ [])
 
--- Writing asks 5, 18, 9, 10, 11, 12; there is no file yet, so 18 asks the plate alone
+-- Writing asks 5, 18, 9, 10, 11, 19, 12; there is no file yet, so 18 asks the plate alone. A file of edition 1, the only one yet, has no place for a J
 abbrev pub writeAsks : Table → ℕ → ℕ → List ℕ → List ℕ → ℕ → Asks
 writeAsks t cabinet line own catalogue room =
     wrongCounts (t .n) (length own) ∷
@@ -146,19 +154,20 @@ writeAsks t cabinet line own catalogue room =
     (OutOfRange, not (leb cabinet mostCabinet && recordsInRange (t .records) (t .n))) ∷
     badAssignment (t .records) (t .n) ∷
     badRegions (t .records) (t .n) own catalogue ∷
+    (JitterInEditionOne, anyJitter (t .records) (t .n)) ∷
     noRoom room (fileLength (t .n) (length own)) ∷ []
 
 -- Response times ask 5, 9, 10, 14
 abbrev pub timesAsks : Table → Asks
 timesAsks t = wrongTasks t ∷ outOfRange (t .records) (t .n) ∷ badAssignment (t .records) (t .n) ∷ isUnassigned t ∷ []
 
--- Tolerances ask 5, 9, 10, 14, 15
+-- Tolerances ask 5, 9, 10, 14, 15, and 16 where there is no t: a tolerance below zero is a number
 abbrev pub tolerancesAsks : Table → Asks
-tolerancesAsks t = timesAsks t ++ (deadlineAbovePeriod t ∷ [])
+tolerancesAsks t = timesAsks t ++ (deadlineAbovePeriod t ∷ toleranceOverNone t ∷ [])
 
--- lengths 16 as well
+-- lengths 16 of both
 abbrev pub lengthsAsks : Table → Asks
-lengthsAsks t = tolerancesAsks t ++ (toleranceBelowZero t ∷ [])
+lengthsAsks t = timesAsks t ++ (deadlineAbovePeriod t ∷ toleranceBelowZero t ∷ [])
 
 -- the region check 11 too
 abbrev pub fitAsks : Table → List ℕ → List ℕ → Asks

@@ -24,6 +24,8 @@ pub struct Record {
     pub first: u32,
     pub count: u32,
     pub name: u32,
+    // By how many ticks the task may be asked for late, J, from 0 to the period less 1 (document 02, item 8).
+    pub jitter: u32,
 }
 
 // The most tasks and region words that a table may have.
@@ -64,10 +66,12 @@ pub enum Refusal {
     NoSuchPart,
     Unassigned,
     DeadlineAbovePeriod,
-    // Holds the number of the lowest record whose tolerance is below zero.
+    // Holds the number of the lowest record that is turned away: by the call of tolerances one whose jitter leaves no t to take a
+    // tolerance over; by lengths and the region check that, or one whose tolerance is below zero.
     ToleranceBelowZero(usize),
     BadRow,
     BlankPlate,
+    JitterInEditionOne,
 }
 
 pub enum Outcome {

@@ -165,11 +165,12 @@ fn record_at(s: &[u8], at: usize) -> Record
         first: four_at(s, at + 24),
         count: four_at(s, at + 28),
         name: four_at(s, at + 32),
+        jitter: four_at(s, at + 36),
     }
 }
 
 // How long a record is in a body, and a table: n, then always as many records as a table may hold.
-pub const RECORD_BYTES: usize = 9 * 4;
+pub const RECORD_BYTES: usize = 10 * 4;
 
 pub const TABLE_BYTES: usize = 1 + RECORD_BYTES * MOST_TASKS;
 

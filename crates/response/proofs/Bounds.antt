@@ -1,4 +1,4 @@
--- The worst of several jobs with the first that reaches it, step by step and up to a bound; R up to the horizon is R, and up to the deadline says whether a task passes.
+-- The worst of several jobs with the first that reaches it, step by step and up to a bound; R up to the latest that there can be is R, and up to the deadline says whether a task passes.
 use Prim.Native.Nat.{ℕ, zero, suc, _+_, _-_, _*_, _≤_, _<_, max}
 use mathlib.Core.Path.{_≡_, refl, ap, sym, _∙_}
 use mathlib.Core.Bool.{Bool, true, false, true≢false, cond}
@@ -7,7 +7,7 @@ use native.Mathlib.Numerals.{add-one}
 use lib.Dec.{ltb}
 use borrow.Author.Tests.{le-leb}
 use Rattle.paper.specs.Vocabulary.{lowest}
-use Rattle.paper.specs.Numbers.{horizon, Assignment}
+use Rattle.paper.specs.Numbers.{mostTicks, horizon, Assignment}
 use Rattle.paper.specs.Analysis.{Tasks, Standing, before, levelOf, startOf, finishOf, finishFrom, job, later, worst, worstFrom, response, firstReaching, worstJob, withJob, within, taskPasses}
 use Rattle.paper.specs.declared.Response.{Response}
 use Rattle.paper.specs.declared.Time.{Time}
@@ -20,6 +20,10 @@ use Rattle.jobs.proofs.Blocks.{stand-is}
 use Rattle.jobs.proofs.Spans.{response-beyond}
 use Rattle.response.specs.Bounds.{tooLate, bounded, worstWith, responseOf}
 
+-- no R lies above
+abbrev pub latest : ℕ
+latest = horizon + mostTicks
+
 -- a time that is not within the bound, and one that is
 above : (most : ℕ) (r : Response) → (within (r .time) most ≡ true → ⊥) → tooLate ≡ bounded most r
 unfolding bounded
@@ -31,9 +35,10 @@ above most r h = go (within (r .time) most) h
 
 module _ (y : Tasks) (s : Standing) (i : ℕ) where
   module _ (most m k : ℕ) where
-    pub one-late : (f : ℕ) {t r : ℕ} → k < m → job y s i k ≡ At f → t ≡ y .t i → r ≡ f - k * t → most < r → tooLate ≡ bounded most (worstWith y s i m)
-    one-late f l e et er h =
-        let er = rw et at er in
+    pub one-late : (f : ℕ) {t j r : ℕ} → k < m → job y s i k ≡ At f → t ≡ y .t i → j ≡ y .j i → r ≡ f + j - k * t → most < r
+        → tooLate ≡ bounded most (worstWith y s i m)
+    one-late f l e et ej er h =
+        let er = rw (et, ej) at er in
         above most _ (λ w. let t = worst-jobs y s i most m .0 w k l in let q : t .f ≡ f = cc (t .finish) in omega (arith, t .ok))
 
     pub one-beyond : k < m → job y s i k ≡ Beyond → tooLate ≡ bounded most (worstWith y s i m)
@@ -49,21 +54,21 @@ module _ (y : Tasks) (s : Standing) (i : ℕ) where
   unfolding worst
   worst-none = refl
 
-  pub worst-more : (k q f : ℕ) {t r m : ℕ} → At q ≡ worst y s i k → job y s i k ≡ At f → t ≡ y .t i → r ≡ f - k * t → m ≡ max q r
+  pub worst-more : (k q f : ℕ) {t j r m : ℕ} → At q ≡ worst y s i k → job y s i k ≡ At f → t ≡ y .t i → j ≡ y .j i → r ≡ f + j - k * t → m ≡ max q r
       → At m ≡ worst y s i (k + 1)
   unfolding worst later
-  worst-more k q f e g et er em = rw (add-one, ← e, g, em, er, et)
+  worst-more k q f e g et ej er em = rw (add-one, ← e, g, em, er, et, ej)
 
   pub first-none : 0 ≡ firstReaching y s i 0 (At 0)
   unfolding firstReaching lowest
   first-none = refl
 
-  pub first-next : (k q j f : ℕ) {t r v m : ℕ} → At q ≡ worst y s i k → j ≡ firstReaching y s i k (At q) → job y s i k ≡ At f → t ≡ y .t i → r ≡ f - k * t
-      → v ≡ cond (ltb q r) k j → m ≡ max q r → v ≡ firstReaching y s i (k + 1) (At m)
-  first-next k q j f e ej g et er ev em = rw (add-one, ev, em, er, et, ej) (first-more y s i k q f (sym e) g)
+  pub first-next : (k q first f : ℕ) {t j r v m : ℕ} → At q ≡ worst y s i k → first ≡ firstReaching y s i k (At q) → job y s i k ≡ At f
+      → t ≡ y .t i → j ≡ y .j i → r ≡ f + j - k * t → v ≡ cond (ltb q r) k first → m ≡ max q r → v ≡ firstReaching y s i (k + 1) (At m)
+  first-next k q first f e ef g et ej er ev em = rw (add-one, ev, em, er, et, ej, ef) (first-more y s i k q f (sym e) g)
 
-  -- no F lies above the horizon, and so no R
-  finish-range : (k f : ℕ) → job y s i k ≡ At f → f ≤ horizon
+  -- no F lies above the horizon
+  pub finish-range : (k f : ℕ) → job y s i k ≡ At f → f ≤ horizon
   unfolding job finishFrom finishOf
   finish-range k f e = go (startOf y s i k) e
     where
@@ -71,37 +76,39 @@ module _ (y : Tasks) (s : Standing) (i : ℕ) where
       go (At start) h = let w = searched _ (start + 1) _ f h in omega (arith, w .low, w .high)
       go Beyond h = let z : _≡_ {A = ℕ} 0 1 = cc in absurd (omega arith)
 
-  worst-range : (m r : ℕ) → worst y s i m ≡ At r → r ≤ horizon
+  -- and so no R above the latest
+  worst-range : (m r : ℕ) → worst y s i m ≡ At r → r ≤ horizon + y .j i
   unfolding worst later
   worst-range zero r e = let z : 0 ≡ r = cc in omega arith
   worst-range (suc m) r e = go (worst y s i m) (job y s i m) (worst-range m) (finish-range m) e
     where
-      go : (w v : Time) → ((q : ℕ) → w ≡ At q → q ≤ horizon) → ((f : ℕ) → v ≡ At f → f ≤ horizon) → later w v (m * y .t i) ≡ At r → r ≤ horizon
-      go (At q) (At f) o g h = let z : max q (f - m * y .t i) ≡ r = cc in omega (arith, o q refl, g f refl)
+      go : (w v : Time) → ((q : ℕ) → w ≡ At q → q ≤ horizon + y .j i) → ((f : ℕ) → v ≡ At f → f ≤ horizon) → later w v (y .j i) (m * y .t i) ≡ At r → r ≤ horizon + y .j i
+      go (At q) (At f) o g h = let z : max q (f + y .j i - m * y .t i) ≡ r = cc in omega (arith, o q refl, g f refl)
       go (At q) Beyond o g h = let z : _≡_ {A = ℕ} 0 1 = cc in absurd (omega arith)
       go Beyond v o g h = let z : _≡_ {A = ℕ} 0 1 = cc in absurd (omega arith)
 
-  response-range : (r : ℕ) → response y s i ≡ At r → r ≤ horizon
+  response-range : (r : ℕ) → response y s i ≡ At r → r ≤ horizon + y .j i
   unfolding response worstFrom
   response-range r e = level (levelOf y s) e
     where
-      level : (l : Time) → worstFrom y s i l ≡ At r → r ≤ horizon
+      level : (l : Time) → worstFrom y s i l ≡ At r → r ≤ horizon + y .j i
       level (At l) h = worst-range _ r h
       level Beyond h = let z : _≡_ {A = ℕ} 0 1 = cc in absurd (omega arith)
 
-  -- what isn't within the horizon is beyond
-  not-within : (r : Time) → response y s i ≡ r → within r horizon ≡ false → response y s i ≡ Beyond
-  unfolding within
-  not-within (At q) e f = absurd (true≢false (sym (le-leb q horizon (response-range q e)) ∙ f))
-  not-within Beyond e f = e
+  -- what isn't within the latest is beyond
+  module _ (late : y .j i ≤ mostTicks) where
+    not-within : (r : Time) → response y s i ≡ r → within r latest ≡ false → response y s i ≡ Beyond
+    unfolding within
+    not-within (At q) e f = absurd (true≢false (sym (le-leb q latest (omega (arith, response-range q e))) ∙ f))
+    not-within Beyond e f = e
 
-  pub horizon-bounds : bounded horizon (withJob y s i) ≡ withJob y s i
-  unfolding bounded withJob
-  horizon-bounds = go (within (response y s i) horizon) refl
-    where
-      go : (v : Bool) → within (response y s i) horizon ≡ v → cond v (withJob y s i) tooLate ≡ withJob y s i
-      go true e = refl
-      go false e = sym (beyond-job y s i (not-within (response y s i) refl e))
+    pub latest-bounds : bounded latest (withJob y s i) ≡ withJob y s i
+    unfolding bounded withJob
+    latest-bounds = go (within (response y s i) latest) refl
+      where
+        go : (v : Bool) → within (response y s i) latest ≡ v → cond v (withJob y s i) tooLate ≡ withJob y s i
+        go true e = refl
+        go false e = sym (beyond-job y s i (not-within (response y s i) refl e))
 
   -- R with its job is the worst of the jobs that L counts
   with-at : (jobs : ℕ) → jobCount y s i ≡ At jobs → worstWith y s i jobs ≡ withJob y s i

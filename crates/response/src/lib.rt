@@ -6,6 +6,7 @@ use jobs::Span;
 use jobs::Stand;
 use paper::HORIZON;
 use paper::MOST_TASKS;
+use paper::MOST_TICKS;
 use paper::Outcome;
 use paper::Response;
 use paper::Table;
@@ -13,7 +14,7 @@ use paper::Time;
 use paper::TimesAnswer;
 ghost use mathlib.Core.Path.{_≡_};
 ghost use mathlib.Core.Bool.{cond};
-ghost use Prim.Native.Nat.{_<_, _≤_};
+ghost use Prim.Native.Nat.{_+_, _<_, _≤_};
 ghost use lib.Dec.{ltb};
 ghost use lib.ListN.{replicate};
 ghost use Rattle.paper.specs.Numbers.{mostTasks, horizon, perTask};
@@ -22,6 +23,9 @@ ghost use Rattle.paper.specs.Analysis.{taskPasses, passes};
 ghost use Rattle.columns.specs.Columns.{tasksBy, assignedBy, rankedBy, Ranged, Placed};
 ghost use Rattle.jobs.specs.Stands.{standBy, Stands};
 ghost use Rattle.response.specs.Bounds.{tooLate, bounded, worstWith, responseOf};
+
+// No response time lies above it: no F lies above the horizon, and no J above the most ticks.
+const LATEST: u64 = HORIZON + MOST_TICKS as u64;
 
 // No response time at or below a bound: the job beside it is 0 and means nothing.
 fn beyond() -> Response
@@ -40,14 +44,15 @@ fn first_reaching(largest: u64, first: u64, r: u64, k: u64) -> u64
     if largest < r { k } else { first }
 }
 
-// The largest F - k T of the jobs below `count` with the first job that reaches it, or beyond where it is above `most`. Stops
+// The largest F + J - k T of the jobs below `count` with the first job that reaches it, or beyond where it is above `most`. Stops
 // at the first job that is.
 fn worst(n: usize, y: &Tasks, p: &Numbers, s: Stand, count: u64, most: u64) -> Response
-    requires { ⌜ Ranged (tasksBy n (now y)) × Stands (tasksBy n (now y)) (rankedBy (now p)) s × (count ≤ horizon) ⌝ }
+    requires { ⌜ Ranged (tasksBy n (now y)) × Stands (tasksBy n (now y)) (rankedBy (now p)) s × (count ≤ horizon + 1) ⌝ }
     ensures { λ r. ⌜ r ≡ bounded most (worstWith (tasksBy n (now (y .entry))) (standBy (rankedBy (now (p .entry))) s) (s .i) count) ⌝ }
 {
     let cost = columns::cost(y, s.i);
     let period = columns::period(y, s.i);
+    let jitter = columns::jitter(y, s.i);
     let mut from = 0;
     let mut largest = 0;
     let mut first = 0;
@@ -57,7 +62,7 @@ fn worst(n: usize, y: &Tasks, p: &Numbers, s: Stand, count: u64, most: u64) -> R
         let Span::Ends(begun, end) = j else {
             return beyond();
         };
-        let r = jobs::less(end, k * period);
+        let r = jobs::less(end + jitter, k * period);
         if most < r {
             return beyond();
         }
@@ -132,7 +137,7 @@ fn all_responses(n: usize, y: &Tasks, p: &Numbers, h: &Numbers) -> [Response; MO
     let mut times = no_times();
     let mut i = 0;
     while i < n {
-        times[i] = response(n, y, p, h, i, HORIZON);
+        times[i] = response(n, y, p, h, i, LATEST);
         i = i + 1;
     }
     times

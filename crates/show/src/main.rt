@@ -4,9 +4,10 @@
 // it lacks is shown by its number. A catalogue that can't be had ends the program without a sheet: one that was made with
 // another catalogue would look whole.
 //
-// The table's headings: due is the deadline, pr the priority, th the threshold, resp the response time, slack what is left
-// from it to the deadline, tol the tolerance, and fit whether every region of the job is at most its length. Lines under it name
-// the worst job of an active period, where that isn't job 0 or the deadline is missed.
+// The table's headings: due is the deadline, jit the jitter (a column that is left out where every jitter is 0), pr the priority,
+// th the threshold, resp the response time, slack what is left from it to the deadline, tol the tolerance, and fit whether every
+// region of the job is at most its length. Lines under it name the worst job of an active period, where that isn't job 0 or the
+// deadline is missed.
 mod arguments;
 mod unnamed;
 

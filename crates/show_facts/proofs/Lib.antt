@@ -2,3 +2,4 @@ pub mod Says
 pub mod Firsts
 pub mod Verdicts
 pub mod WorstJobs
+pub mod Jitters

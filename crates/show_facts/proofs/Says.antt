@@ -1,11 +1,11 @@
--- What a cell, what is said of a worst job, a note and a half of the verdict are in each case.
+-- What a cell, whether a column stands, what is said of a worst job, a note and a half of the verdict are in each case.
 use Prim.Native.Nat.{ℕ, _+_, _-_, _≤_, _<_}
 use mathlib.Core.Path.{_≡_, sym, _∙_}
 use mathlib.Core.Bool.{Bool, true, false, not}
 use mathlib.Core.List.{List}
 use native.Mathlib.Omega.{arith}
 use borrow.Author.Tests.{ltb-true, le-leb, lt-leb, eq-eqb, ne-eqb}
-use lib.Dec.{leb}
+use lib.Dec.{leb, ltb, eqb}
 use lib.IntN.{ℤ, pos, negsuc, natAbs}
 use lib.ListN.{length, getD, List·getD-eq-default}
 use lib.Signed.{ltZ}
@@ -26,7 +26,7 @@ use Rattle.paper.specs.declared.Time.{Time}
 use Rattle.paper.specs.declared.Time.the-variants.{At, Beyond}
 use Rattle.cells.specs.declared.Cell.{Cell}
 use Rattle.cells.specs.declared.Cell.the-variants as Cell
-use Rattle.show_facts.specs.Sheet.{jobOf, responseAt, fitsAt, factsOf, placeCell, slackCell, ticksCell, firstNote, jobs, keepsAt, deadlinesOf, fitOf, verdictOf}
+use Rattle.show_facts.specs.Sheet.{jobOf, responseAt, fitsAt, factsOf, placeCell, slackCell, ticksCell, columnStands, firstNote, jobs, keepsAt, deadlinesOf, fitOf, verdictOf}
 use Rattle.show_facts.specs.WorstJobs.{worstBy, worstAt}
 use Rattle.show_facts.specs.declared.Worst.{Worst}
 use Rattle.show_facts.specs.declared.Worst.the-variants.{Nothing, Later, Late, Unknown}
@@ -97,6 +97,14 @@ past-columns cells column h = sym (List·getD-eq-default cells Cell.Dash h)
 
 pub one-past : (column k : ℕ) → k ≤ column → (column ≡ k → ⊥) → k + 1 ≤ column
 one-past column k h e = omega arith
+
+-- the jitters' column, and any other
+pub jitters-stand : (f : Facts) (column : ℕ) {n first : ℕ} → column ≡ 3 → n ≡ jobs f → first ≡ lowest n (λ k. not (eqb (jobOf f k .jitter) 0))
+    → ltb 0 first ≡ columnStands f column
+jitters-stand f column e n h = rw (eq-eqb column 3 e, h, n)
+
+pub others-stand : (f : Facts) (column : ℕ) → (column ≡ 3 → ⊥) → true ≡ columnStands f column
+others-stand f column e = rw (ne-eqb column 3 e)
 
 pub kept-at : (time : Time) (x d : ℕ) → time ≡ At x → leb x d ≡ within time d
 unfolding within

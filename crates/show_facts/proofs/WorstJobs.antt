@@ -92,7 +92,7 @@ module _ (t : Table) (own catalogue : List ℕ) (done : firstOf (timesAsks t) �
           inl (x, k, answered-largest t i noTime done among x k .0 (answered t i noTime done among ∙ ap (λ v. record { time = v; job = k }) e))
       go Beyond e = inr e
 
-  -- job k is the worst, and late: its F − k·T(i) is D(i) + by
+  -- job k is the worst, and late: its F + J(i) − k·T(i) is D(i) + by
   pub late-line : (k by : ℕ) → (line ≡ Late k by) ↔ ((1 ≤ by) × Largest y s i (y .d i + by) k)
   late-line k by = (λ e. ⊎-elim (there e) (λ b. let z : _≡_ {A = ℕ} 0 1 = cc (line-beyond b, e) in absurd (omega arith)) either, gives)
     where

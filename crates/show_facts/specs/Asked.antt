@@ -1,12 +1,14 @@
--- What the verdict asks of a job: one loop looks for the first job that doesn't meet it, whichever is asked.
+-- What is asked of a job: one loop looks for the first job that doesn't meet it, whichever is asked.
 use Prim.Native.Nat.{ℕ}
 use mathlib.Core.Bool.{Bool, false}
+use lib.Dec.{eqb}
 use lib.ListN.{getD}
 use Rattle.show_facts.specs.declared.Facts.{Facts}
 use Rattle.show_facts.specs.declared.Asked.{Asked}
-use Rattle.show_facts.specs.declared.Asked.the-variants.{Deadline, Regions}
-use Rattle.show_facts.specs.Sheet.{keepsAt}
+use Rattle.show_facts.specs.declared.Asked.the-variants.{Deadline, Regions, Jitter}
+use Rattle.show_facts.specs.Sheet.{jobOf, keepsAt}
 
 abbrev pub holdsAt : Facts → Asked → ℕ → Bool
 holdsAt f Deadline k = keepsAt f k
 holdsAt f Regions k = getD (f .fits) k false
+holdsAt f Jitter k = eqb (jobOf f k .jitter) 0

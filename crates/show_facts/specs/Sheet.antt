@@ -2,7 +2,7 @@
 use Prim.Native.Nat.{ℕ, suc, _+_, _-_, min}
 use mathlib.Core.Bool.{Bool, true, false, not, cond}
 use mathlib.Core.List.{List, [], _∷_}
-use lib.Dec.{leb, eqb}
+use lib.Dec.{leb, ltb, eqb}
 use lib.IntN.{ℤ, pos, negsuc}
 use lib.ListN.{getD}
 use Rattle.paper.specs.Vocabulary.{lowest, listTo}
@@ -89,12 +89,13 @@ fitCell fits = cond fits Cell.Yes Cell.No
 abbrev pub shown : Outcome → Cell → Cell
 shown o x = whenDone o x Cell.Dash
 
--- the cells of job k + 1, from left to right: cost, period, deadline, priority, threshold, response time, slack, tolerance, length, fit
+-- the cells of job k + 1, from left to right: cost, period, deadline, jitter, priority, threshold, response time, slack, tolerance, length, fit
 abbrev pub cellsOf : Facts → ℕ → List Cell
 cellsOf f k =
     Cell.Number (jobOf f k .cost) ∷
     Cell.Number (jobOf f k .period) ∷
     Cell.Number (jobOf f k .deadline) ∷
+    Cell.Number (jobOf f k .jitter) ∷
     placeCell (jobOf f k .priority) ∷
     placeCell (jobOf f k .threshold) ∷
     shown (f .times .outcome) (timeCell (timeAt (f .times) k)) ∷
@@ -115,6 +116,13 @@ firstNote times tolerances lengths =
 -- A table that is read has no more jobs than a table holds
 abbrev pub jobs : Facts → ℕ
 jobs f = min (f .table .n) mostTasks
+
+-- the number of the first job with a jitter, or 0; where there is none the jitters' column, 3, is left out
+abbrev pub firstJitter : Facts → ℕ
+firstJitter f = lowest (jobs f) (λ k. not (eqb (jobOf f k .jitter) 0))
+
+abbrev pub columnStands : Facts → ℕ → Bool
+columnStands f column = cond (eqb column 3) (ltb 0 (firstJitter f)) true
 
 -- a job keeps its deadline where its R exists and R ≤ D
 abbrev pub keepsAt : Facts → ℕ → Bool

@@ -4,12 +4,12 @@
 ghost use Prim.Native.Nat.{_+_, _<_, _≤_, min};
 ghost use mathlib.Core.Path.{_≡_};
 ghost use mathlib.Core.Bool.{false, not};
-ghost use lib.Dec.{leb};
+ghost use lib.Dec.{leb, eqb};
 ghost use lib.ListN.{getD};
 ghost use Rattle.paper.specs.Vocabulary.{listTo, lowest};
 ghost use Rattle.paper.specs.Numbers.{mostTasks, rec};
 ghost use Rattle.paper.specs.Analysis.{within};
-ghost use Rattle.show_facts.specs.Sheet.{responseAt, timeAt, ticksAt, fitsAt, factsOf, placeCell, timeCell, slackCell, ticksCell, fitCell, shown, cellsOf, firstNote, keepsAt, deadlinesOf, fitOf, verdictOf, inSource, firstOutside};
+ghost use Rattle.show_facts.specs.Sheet.{responseAt, timeAt, ticksAt, fitsAt, factsOf, placeCell, timeCell, slackCell, ticksCell, fitCell, shown, cellsOf, columnStands, firstNote, keepsAt, deadlinesOf, fitOf, verdictOf, inSource, firstOutside};
 ghost use Rattle.show_facts.specs.WorstJobs.{worstBy, worstAt};
 ghost use Rattle.show_facts.specs.Asked.{holdsAt};
 use cells::Cell;
@@ -72,8 +72,10 @@ pub enum Verdict {
     Unchecked,
 }
 
-// The columns of numbers: cost, period, deadline, priority, threshold, response time, slack, tolerance, length, fit.
-pub const COLUMNS: usize = 10;
+// The columns of numbers: cost, period, deadline, jitter, priority, threshold, response time, slack, tolerance, length, fit.
+pub const COLUMNS: usize = 11;
+
+pub const JITTERS: usize = 3;
 
 fn all_fits(
     rs: [Record; MOST_TASKS],
@@ -252,13 +254,14 @@ pub fn cell(f: Facts, k: usize, column: usize) -> Cell
         0 => Cell::Number(r.cost as u64),
         1 => Cell::Number(r.period as u64),
         2 => Cell::Number(r.deadline as u64),
-        3 => place_cell(r.priority),
-        4 => place_cell(r.threshold),
-        5 => response_cell(f.times, k),
-        6 => left_cell(f.times, r.deadline as u64, k),
-        7 => answer_cell(f.tolerances, k),
-        8 => answer_cell(f.lengths, k),
-        9 => {
+        JITTERS => Cell::Number(r.jitter as u64),
+        4 => place_cell(r.priority),
+        5 => place_cell(r.threshold),
+        6 => response_cell(f.times, k),
+        7 => left_cell(f.times, r.deadline as u64, k),
+        8 => answer_cell(f.tolerances, k),
+        9 => answer_cell(f.lengths, k),
+        10 => {
             let fits = f.fits;
             fits_cell(f.lengths, fits, k)
         }
@@ -345,10 +348,19 @@ fn keeps_at(f: Facts, k: usize) -> bool
     keeps(time_at(f.times, k), r.deadline as u64)
 }
 
-// What the verdict asks of a job: that it keeps its deadline, that none of its regions is above its length.
+// What is asked of a job: that it keeps its deadline, that none of its regions is above its length, that its jitter is 0.
 enum Asked {
     Deadline,
     Regions,
+    Jitter,
+}
+
+fn still_at(t: Table, k: usize) -> bool
+    requires { ⌜ k < mostTasks ⌝ }
+    ensures { λ b. ⌜ b ≡ eqb (rec (t .records) k .jitter) 0 ⌝ }
+{
+    let r = record_of(t, k);
+    r.jitter == 0
 }
 
 fn holds_at(f: Facts, asked: Asked, k: usize) -> bool
@@ -361,6 +373,7 @@ fn holds_at(f: Facts, asked: Asked, k: usize) -> bool
             let fits = f.fits;
             fit_at(fits, k)
         }
+        Asked::Jitter => still_at(f.table, k),
     }
 }
 
@@ -386,6 +399,17 @@ pub fn jobs_of(t: Table) -> usize
 {
     let n = t.n;
     if n < MOST_TASKS { n } else { MOST_TASKS }
+}
+
+// The column of the jitters is left out where every jitter is 0.
+pub fn column_stands(f: Facts, column: usize) -> bool
+    ensures { λ b. ⌜ b ≡ columnStands f column ⌝ }
+{
+    if column == JITTERS {
+        let n = jobs_of(f.table);
+        return 0 < first_failing(f, Asked::Jitter, n);
+    }
+    true
 }
 
 fn deadlines_of(late: usize) -> Deadlines

@@ -12,6 +12,7 @@ use show_facts::COLUMNS;
 use show_facts::Deadlines;
 use show_facts::Facts;
 use show_facts::Fit;
+use show_facts::JITTERS;
 use show_facts::Note;
 use show_facts::Verdict;
 use show_facts::Worst;
@@ -29,22 +30,23 @@ fn put_heading(buf: &mut [u8], at: usize, column: usize, width: usize) -> usize
         0 => cells::put_right(buf, at, b"cost", width),
         1 => cells::put_right(buf, at, b"period", width),
         2 => cells::put_right(buf, at, b"due", width),
-        3 => cells::put_right(buf, at, b"pr", width),
-        4 => cells::put_right(buf, at, b"th", width),
-        5 => cells::put_right(buf, at, b"resp", width),
-        6 => cells::put_right(buf, at, b"slack", width),
-        7 => cells::put_right(buf, at, b"tol", width),
-        8 => cells::put_right(buf, at, b"length", width),
+        JITTERS => cells::put_right(buf, at, b"jit", width),
+        4 => cells::put_right(buf, at, b"pr", width),
+        5 => cells::put_right(buf, at, b"th", width),
+        6 => cells::put_right(buf, at, b"resp", width),
+        7 => cells::put_right(buf, at, b"slack", width),
+        8 => cells::put_right(buf, at, b"tol", width),
+        9 => cells::put_right(buf, at, b"length", width),
         _ => cells::put_right(buf, at, b"fit", width),
     }
 }
 
 fn heading_width(column: usize) -> usize {
     match column {
-        0 | 5 | NAMES => 4,
-        1 | 8 => 6,
-        3 | 4 => 2,
-        6 => 5,
+        0 | 6 | NAMES => 4,
+        1 | 9 => 6,
+        4 | 5 => 2,
+        7 => 5,
         _ => 3,
     }
 }
@@ -92,12 +94,15 @@ fn widths_of<'a>(f: Facts, n: usize, cabinet: &'a [u8], house: &'a [u8]) -> [usi
     widths
 }
 
-// A column of a row: its heading in row 0, else the cell of the job with the row's number.
+// A column of a row: its heading in row 0, else the cell of the job with the row's number. One that is left out has neither.
 fn put_column(buf: &mut [u8], at: usize, f: Facts, row: usize, column: usize, width: usize) -> usize
     requires { ⌜ at ≤ length (now buf) ⌝ }
     requires { ⌜ row ≤ mostTasks ⌝ }
     ensures { λ r. ⌜ r ≤ length (now (buf .entry)) ⌝ }
 {
+    if !show_facts::column_stands(f, column) {
+        return at;
+    }
     let start = cells::space(buf, at);
     if row == 0 {
         return put_heading(buf, start, column, width);
@@ -302,13 +307,35 @@ fn put_why(buf: &mut [u8], at: usize, what: &[u8], r: Refusal) -> usize
     cells::put_refused(buf, named, r)
 }
 
+fn put_no_time(buf: &mut [u8], at: usize, r: Refusal, job: usize) -> usize
+    requires { ⌜ at ≤ length (now buf) ⌝ }
+    ensures { λ x. ⌜ x ≤ length (now (buf .entry)) ⌝ }
+{
+    let numbered = cells::put_number(buf, at, r);
+    let named = say::count(buf, numbered, b"the jitter of job", job as u64);
+    say::word(buf, named, b" reaches its deadline\n")
+}
+
+// Where the tolerances themselves are refused with 16, no time is left for a job between its jitter and its deadline. Where only
+// the lengths are, a tolerance is below zero, as the words of 16 say.
+fn put_tolerances_why(buf: &mut [u8], at: usize, r: Refusal) -> usize
+    requires { ⌜ at ≤ length (now buf) ⌝ }
+    ensures { λ x. ⌜ x ≤ length (now (buf .entry)) ⌝ }
+{
+    let named = say::word(buf, at, b"tolerances, lengths: ");
+    match r {
+        Refusal::ToleranceBelowZero(job) => put_no_time(buf, named, r, job),
+        _ => cells::put_refused(buf, named, r),
+    }
+}
+
 fn put_note(buf: &mut [u8], at: usize, note: Note) -> usize
     requires { ⌜ at ≤ length (now buf) ⌝ }
     ensures { λ x. ⌜ x ≤ length (now (buf .entry)) ⌝ }
 {
     match note {
         Note::Times(r) => put_why(buf, at, b"times, tolerances, lengths: ", r),
-        Note::Tolerances(r) => put_why(buf, at, b"tolerances, lengths: ", r),
+        Note::Tolerances(r) => put_tolerances_why(buf, at, r),
         Note::Lengths(r) => put_why(buf, at, b"lengths: ", r),
         Note::Nothing => at,
     }

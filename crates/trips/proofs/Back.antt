@@ -1,6 +1,6 @@
 -- What a table's file says, and that it reads where the writer takes the table.
 use mathlib.Core.Path.{_≡_, ap, _∙_}
-use mathlib.Core.Bool.{true}
+use mathlib.Core.Bool.{true, false}
 use mathlib.Core.List.{List}
 use Prim.Native.Nat.{ℕ, _≤_, _<_}
 use native.Mathlib.Omega.{arith}
@@ -8,7 +8,7 @@ use borrow.Author.Tests.{eq-eqb}
 use lib.Dec.{eqb}
 use lib.ListN.{length, getD}
 use lib.Seq.{ext-getD}
-use Rattle.paper.specs.Numbers.{rec, zeroRecord, perTask}
+use Rattle.paper.specs.Numbers.{rec, zeroRecord, perTask, anyJitter}
 use Rattle.paper.specs.File.{headValues, headFields, recordFields, recordFrom, recordIn, spareClear, tasksIn, wordsIn, regionWords, recordsIn, tableIn}
 use Rattle.paper.specs.Answers.{readOutcome}
 use Rattle.paper.specs.declared.Outcome.the-variants.{Done}
@@ -18,10 +18,11 @@ use Rattle.laws.proofs.Lists.{list-same}
 use Rattle.trips.proofs.One.{IsFile}
 use Rattle.paper.proofs.Reading.{read-done}
 use Rattle.paper.proofs.Writing.{Taken}
+use Rattle.paper.proofs.Jitters.{no-jitter}
 use Rattle.trips.proofs.Read.{record-trip, words-count, word-at, record-at}
 use Rattle.trips.proofs.Alike.{ranges-alike, assignment-alike, regions-alike}
 
-module _ (t : Table) (cabinet line : ℕ) (own f : List ℕ) (i : IsFile t cabinet line own f) where
+module _ (t : Table) (cabinet line : ℕ) (own f : List ℕ) (i : IsFile t cabinet line own f) (u : anyJitter (t .records) (t .n) ≡ false) where
   -- the head's values, by their places
   said : (j : ℕ) → getD (headFields f) j 0 ≡ getD (headValues cabinet line (t .n) (length own)) j 0
   said j = ap (λ (vs : List ℕ). getD vs j 0) (i .head)
@@ -33,7 +34,7 @@ module _ (t : Table) (cabinet line : ℕ) (own f : List ℕ) (i : IsFile t cabin
   count-back = said 5
 
   record-back : (k : ℕ) → k < t .n → recordIn f k ≡ rec (t .records) k
-  record-back k l = ap (λ (vs : List ℕ). recordFrom vs) (i .has-records k l) ∙ record-trip (rec (t .records) k)
+  record-back k l = ap (λ (vs : List ℕ). recordFrom vs) (i .has-records k l) ∙ record-trip (rec (t .records) k) (no-jitter (t .records) (t .n) u k l)
 
   records-back : recordsIn f (tasksIn f) ≡ perTask (t .n) (rec (t .records)) zeroRecord
   unfolding perTask

@@ -86,7 +86,7 @@ record-fits r e v d =
     let a = both _ _ e in
     let b = both _ _ (a .1) in
     let c = both _ _ (b .1) in
-    let x : r .name ≤ mostName = leb-true _ _ (c .1) in
+    let x : r .name ≤ mostName = leb-true _ _ (both _ _ (c .1) .0) in
     ticks-fit _ (a .0)
     and ticks-fit _ (b .0)
     and ticks-fit _ (c .0)

@@ -17,8 +17,8 @@ abbrev jobs : Table
 jobs = record {
   n = 2;
   records =
-      record { cost = 2; period = 5; deadline = 5; priority = 1; threshold = 1; source = Own; first = 0; count = 1; name = 0 } ∷
-      record { cost = 4; period = 10; deadline = 10; priority = 2; threshold = 2; source = Own; first = 1; count = 2; name = 1 } ∷ [];
+      record { cost = 2; period = 5; deadline = 5; priority = 1; threshold = 1; source = Own; first = 0; count = 1; name = 0; jitter = 0 } ∷
+      record { cost = 4; period = 10; deadline = 10; priority = 2; threshold = 2; source = Own; first = 1; count = 2; name = 1; jitter = 0 } ∷ [];
 }
 
 abbrev words : List ℕ

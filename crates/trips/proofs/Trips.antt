@@ -21,7 +21,7 @@ use Rattle.trips.proofs.One.{one-file}
 use Rattle.trips.proofs.Made.{made}
 use Rattle.paper.proofs.Reading.{read-says}
 use Rattle.paper.proofs.Writing.{write-says, write-done}
-use Rattle.trips.proofs.Read.{read-file, words-count}
+use Rattle.trips.proofs.Read.{read-file, words-count, read-unjittered}
 use Rattle.trips.proofs.Fits.{taken-fits}
 use Rattle.trips.proofs.Back.{table-back, words-back, reads}
 
@@ -65,9 +65,9 @@ written-read t cabinet line own catalogue room l e =
     let w = write-says t cabinet line own catalogue room e in
     let i = made t cabinet line own (taken-fits t cabinet line own catalogue room w l) in
     record {
-      done = λ room' h. reads t cabinet line own (fileOf t cabinet line own) i catalogue room room' w h;
-      table = table-back t cabinet line own (fileOf t cabinet line own) i;
-      words = words-back t cabinet line own (fileOf t cabinet line own) i;
+      done = λ room' h. reads t cabinet line own (fileOf t cabinet line own) i (w .unjittered) catalogue room room' w h;
+      table = table-back t cabinet line own (fileOf t cabinet line own) i (w .unjittered);
+      words = words-back t cabinet line own (fileOf t cabinet line own) i (w .unjittered);
     }
 
 -- A file that reads is taken by the writer, with its own table, plate and region words and the same catalogue,
@@ -88,6 +88,7 @@ read-taken f cabinet line catalogue room room' e h =
       ranges = r .ranges;
       assignment = r .assignment;
       regions = r .regions;
+      unjittered = read-unjittered f (tasksIn f);
       fits = rw c (omega (arith, r .size));
     })
 

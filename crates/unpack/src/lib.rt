@@ -35,6 +35,7 @@ fn zero_record() -> Record
         first: 0,
         count: 0,
         name: 0,
+        jitter: 0,
     }
 }
 
@@ -64,6 +65,8 @@ fn record_in(f: &[u8], k: usize) -> Record
     let first = bits::get(f, at + 69, 7) as u32;
     let count = bits::get(f, at + 76, 7) as u32;
     let name = bits::get(f, at + 83, 7) as u32;
+    // A file of edition 1 has no place for it.
+    let jitter = 0;
     Record {
         cost,
         period,
@@ -74,6 +77,7 @@ fn record_in(f: &[u8], k: usize) -> Record
         first,
         count,
         name,
+        jitter,
     }
 }
 

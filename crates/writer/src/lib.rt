@@ -58,6 +58,9 @@ fn outcome_of(
     if !regions::all_regions_hold(rs, n, own, catalogue) {
         return Outcome::Refused(Refusal::BadRegions);
     }
+    if !checks::unjittered(rs, n) {
+        return Outcome::Refused(Refusal::JitterInEditionOne);
+    }
     if room < layout::file_length(n, m) {
         return Outcome::Refused(Refusal::NoRoom);
     }

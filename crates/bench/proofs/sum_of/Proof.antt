@@ -1,4 +1,4 @@
--- `bench::sum_of` sums at most two million for each task.
+-- `bench::sum_of` sums at most four million for each task.
 use Prim.Native.Nat.{_≤_, _-_, _*_}
 use Rattle.paper.specs.Numbers.{mostTasks, horizon}
 use borrow.Author.Needs.{needs}
@@ -6,7 +6,7 @@ use Rattle.bench.proofs.sum_of.Statement.{statement}
 use Rattle.bench.proofs.sum_of.Tie as tie
 
 abbrev Inv-loop : tie.InvT-loop
-Inv-loop times sum₀ k₀ sum k = (k ≤ mostTasks) × (sum ≤ 2 * horizon * k)
+Inv-loop times sum₀ k₀ sum k = (k ≤ mostTasks) × (sum ≤ 4 * horizon * k)
 
 abbrev μ-loop : tie.MeasureT-loop
 μ-loop times sum₀ k₀ sum k = mostTasks - k

@@ -16,6 +16,9 @@ enum-told-2 c = search needs
 enum-told-3 : tie.Need-enum-told-3
 enum-told-3 c = search needs
 
+enum-told-4 : tie.Need-enum-told-4
+enum-told-4 c = search needs
+
 returns : tie.Need-returns
 returns c = rw (c .before .enum-told .given .1) (c .record-in-range .ensures)
 
@@ -25,6 +28,9 @@ returns-2 c = rw (c .before .before .enum-told2 .given .1) refl
 returns-3 : tie.Need-returns-3
 returns-3 c = rw (c .before .enum-told3 .given .1) refl
 
+returns-4 : tie.Need-returns-4
+returns-4 c = rw (c .before .enum-told4 .given .1) refl
+
 pub passes-spec : {M : Type 1} → statement M
 passes-spec =
     tie.close
@@ -33,6 +39,8 @@ passes-spec =
     record-in-range-requires
     enum-told-2
     enum-told-3
+    enum-told-4
     returns
     returns-2
-    returns-3)
+    returns-3
+    returns-4)

@@ -1,4 +1,4 @@
--- The four numbers of a record, one test each.
+-- The numbers of a record, one test each.
 use borrow.Author.Needs.{needs}
 use Rattle.checks.proofs.record_in_range.Statement.{statement}
 use Rattle.checks.proofs.record_in_range.Tie as tie

@@ -11,7 +11,7 @@ arrived-requires c κs = search needs
 mul-result : tie.Need-mul-result
 mul-result c =
     let s = c .before .before in
-    let h = jobs-bound (s .args .x) (s .args .t) (s .args .c) (s .pre .0) (s .pre .1) (s .pre .3) in
+    let h = jobs-bound (s .args .x) (s .args .period) (s .args .jitter) (s .args .cost) (s .pre .0) (s .pre .1) (s .pre .2) (s .pre .3) in
     record { fits = rw (c .arrived .ensures) (omega arith) }
 
 returns : tie.Need-returns

@@ -26,6 +26,9 @@ cost-requires c κs = search needs
 period-requires : tie.Need-period-requires Inv-loop μ-loop
 period-requires c κs = search needs
 
+jitter-requires : tie.Need-jitter-requires Inv-loop μ-loop
+jitter-requires c κs = search needs
+
 mul-part : tie.Need-mul-part Inv-loop μ-loop
 mul-part c = omega arith
 
@@ -34,22 +37,26 @@ element-copy-out-part c = omega arith
 
 part-requires : tie.Need-part-requires Inv-loop μ-loop
 part-requires c κs =
-    let s = c .before .before .before .before .before in
-    let l = c .before .before .before .loop-test .taken in
-    let t = s .pre .0 .periods _ l in
-    (s .pre .1, rw (c .before .period .ensures) (t .0), rw (c .before .period .ensures) (t .1), rw (c .before .before .cost .ensures) (s .pre .0 .costs _ l .1))
+    let s = c .before .before .before .before .before .before in
+    let l = c .before .before .before .before .loop-test .taken in
+    let r = s .pre .0 in (
+      s .pre .1,
+      rw (c .before .before .period .ensures) (r .periods _ l .1),
+      omega (arith, c .before .before .period .ensures, c .before .jitter .ensures, r .jitters _ l),
+      rw (c .before .before .before .cost .ensures) (r .costs _ l .1),
+    )
 
 add-total : tie.Need-add-total Inv-loop μ-loop
 add-total c =
-    let s = c .before .before .before .before .before .before in
-    let l = c .before .before .before .before .before .loop in
+    let s = c .before .before .before .before .before .before .before in
+    let l = c .before .before .before .before .before .before .loop in
     let a = s .args in
     let y = tasksBy (a .n) (a .y .now) in
     let r = rankedBy (a .p .now) in
     omega (
       arith,
-      part-is y r (a .limit) (a .x) (l .j) (c .before .before .before .cost .ensures) (c .before .before .period .ensures) (c .part .ensures),
-      part-of-bound y r (a .limit) (s .pre .0) (a .x) (s .pre .1) (l .j) (c .before .before .before .before .loop-test .taken),
+      part-is y r (a .limit) (a .x) (l .j) (c .before .before .before .before .cost .ensures) (c .before .before .before .period .ensures) (c .before .before .jitter .ensures) (c .part .ensures),
+      part-of-bound y r (a .limit) (s .pre .0) (a .x) (s .pre .1) (l .j) (c .before .before .before .before .before .loop-test .taken),
       sum-of-bound y r (a .limit) (s .pre .0) (a .x) (s .pre .1) (l .j) (l .inv .0),
     )
 
@@ -61,11 +68,11 @@ loop-less c = search needs
 
 loop-again : tie.Need-loop-again Inv-loop μ-loop
 loop-again c =
-    let l = c .before .before .before .before .before .loop in
-    let a = c .before .before .before .before .before .before .args in (
+    let l = c .before .before .before .before .before .before .loop in
+    let a = c .before .before .before .before .before .before .before .args in (
       search needs,
       sum-turn _ _ (l .inv .1)
-          (part-is (tasksBy (a .n) (a .y .now)) (rankedBy (a .p .now)) (a .limit) (a .x) (l .j) (c .before .before .before .cost .ensures) (c .before .before .period .ensures) (c .part .ensures)),
+          (part-is (tasksBy (a .n) (a .y .now)) (rankedBy (a .p .now)) (a .limit) (a .x) (l .j) (c .before .before .before .before .cost .ensures) (c .before .before .before .period .ensures) (c .before .before .jitter .ensures) (c .part .ensures)),
     )
 
 returns : tie.Need-returns Inv-loop μ-loop
@@ -83,6 +90,7 @@ work-spec =
     loop-holds
     cost-requires
     period-requires
+    jitter-requires
     mul-part
     element-copy-out-part
     part-requires

@@ -16,10 +16,13 @@ put-column-requires-2 c κs = search needs
 put-column-requires-3 : tie.Need-put-column-requires-3
 put-column-requires-3 c κs = search needs
 
+put-column-requires-4 : tie.Need-put-column-requires-4
+put-column-requires-4 c κs = search needs
+
 returns : tie.Need-returns
 unfolding listTo
-returns c = (c .put-column3 .ensures ∙ append-nil _, c .before .before .before .before .before .before .good .0 .1 .0 .1)
+returns c = (c .put-column4 .ensures ∙ append-nil _, c .before .before .before .before .before .before .before .before .good .0 .1 .0 .1)
 
 pub columns-of-spec : {M : Type 1} → statement M
 columns-of-spec =
-    tie.close (tie.spec put-column-requires put-column-requires-2 put-column-requires-3 returns)
+    tie.close (tie.spec put-column-requires put-column-requires-2 put-column-requires-3 put-column-requires-4 returns)

@@ -1,4 +1,4 @@
--- A tolerance below zero is named; where there is none, the lengths are the answer.
+-- A record with no t or with a tolerance below zero is named; where there is none, the lengths are the answer.
 use mathlib.Core.Path.{_∙_}
 use borrow.Author.Needs.{needs}
 use denote.Ref.{now}
@@ -12,8 +12,8 @@ use Rattle.lengths.proofs.lengths_or_refusal.Tie as tie
 all-tolerances-requires : tie.Need-all-tolerances-requires
 all-tolerances-requires c κs = search needs
 
-lowest-below-zero-requires : tie.Need-lowest-below-zero-requires
-lowest-below-zero-requires c κs = search needs
+lowest-falling-requires : tie.Need-lowest-falling-requires
+lowest-falling-requires c κs = search needs
 
 turned-away-requires : tie.Need-turned-away-requires
 turned-away-requires c κs = search needs
@@ -24,7 +24,7 @@ returns c =
     let a = w .before .before .before .args in
     let f = lengthOf (tasksBy (a .n) (now (a .y))) (rankedBy (now (a .p))) in
     c .turned-away .ensures
-    ∙ ticks-refused _ (a .n) f (below-refused _ (w .lowest-below-zero .ensures ∙ lowest-by _ _ (w .before .before .all-tolerances .ensures)) (c .before .if1 .taken))
+    ∙ ticks-refused _ (a .n) f (below-refused _ (w .lowest-falling .ensures ∙ lowest-by _ _ (w .before .before .all-tolerances .ensures)) (c .before .if1 .taken))
 
 all-lengths-requires : tie.Need-all-lengths-requires
 all-lengths-requires c κs = search needs
@@ -34,7 +34,7 @@ returns-2 c =
     let w = c .before .before .before in
     let a = w .before .before .before .args in
     let f = lengthOf (tasksBy (a .n) (now (a .y))) (rankedBy (now (a .p))) in
-    ticks-done (a .n) f (below-done _ (w .lowest-below-zero .ensures ∙ lowest-by _ _ (w .before .before .all-tolerances .ensures)) (c .before .before .if1 .left))
+    ticks-done (a .n) f (below-done _ (w .lowest-falling .ensures ∙ lowest-by _ _ (w .before .before .all-tolerances .ensures)) (c .before .before .if1 .left))
     (c .all-lengths .ensures)
 
 pub lengths-or-refusal-spec : {M : Type 1} → statement M
@@ -42,7 +42,7 @@ lengths-or-refusal-spec =
     tie.close
     (tie.spec
     all-tolerances-requires
-    lowest-below-zero-requires
+    lowest-falling-requires
     turned-away-requires
     returns
     all-lengths-requires

@@ -1,14 +1,16 @@
+-- What tolerances and lengths ask alike is the answer; else refusal 16 or the tolerances.
 use mathlib.Core.Path.{sym, _∙_}
+use borrow.Author.Needs.{needs}
 use Rattle.paper.specs.Numbers.{assigned}
 use Rattle.paper.specs.Analysis.{tasksOf}
 use Rattle.paper.specs.Lengths.{tolerance}
-use Rattle.lengths.proofs.Outcomes.{ticks-refused, ticks-done, in-range}
-use borrow.Author.Needs.{needs}
+use Rattle.paper.specs.Refusals.{toleranceOverNone}
+use Rattle.lengths.proofs.Outcomes.{alike-refused, alike-passed, in-range}
 use Rattle.lengths.proofs.tolerances.Statement.{statement}
 use Rattle.lengths.proofs.tolerances.Tie as tie
 
-tolerances-outcome-requires : tie.Need-tolerances-outcome-requires
-tolerances-outcome-requires c κs = search needs
+deadlines-outcome-requires : tie.Need-deadlines-outcome-requires
+deadlines-outcome-requires c κs = search needs
 
 enum-known-outcome : tie.Need-enum-known-outcome
 enum-known-outcome c = search needs
@@ -19,31 +21,34 @@ turned-away-requires c κs = search needs
 enum-told : tie.Need-enum-told
 enum-told c = search needs
 
-table-tolerances-requires : tie.Need-table-tolerances-requires
-table-tolerances-requires c κs =
-    in-range (c .before .before .before .args .t) (sym (c .before .before .tolerances-outcome .ensures) ∙ c .enum-told .given .1)
+tolerances-in-range-requires : tie.Need-tolerances-in-range-requires
+tolerances-in-range-requires c κs =
+    in-range (c .before .before .before .args .t) (sym (c .before .before .deadlines-outcome .ensures) ∙ c .enum-told .given .1)
 
 returns : tie.Need-returns
 returns c =
     let o = c .before .before .before .before in
     let t = o .before .args .t in
     c .turned-away .ensures
-    ∙ ticks-refused _ (t .n) (tolerance (tasksOf (t .records) (t .n)) (assigned (t .records))) (sym (o .tolerances-outcome .ensures) ∙ c .before .before .outcome .given .1)
+    ∙ alike-refused t (toleranceOverNone t) (tolerance (tasksOf (t .records) (t .n)) (assigned (t .records))) _
+    (sym (o .deadlines-outcome .ensures) ∙ c .before .before .outcome .given .1)
 
 returns-2 : tie.Need-returns-2
 returns-2 c =
     let o = c .before .before .before in
     let t = o .before .args .t in
-    ticks-done (t .n) (tolerance (tasksOf (t .records) (t .n)) (assigned (t .records))) (sym (o .tolerances-outcome .ensures) ∙ c .before .enum-told .given .1) (c .table-tolerances .ensures)
+    c .tolerances-in-range .ensures
+    ∙ alike-passed t (toleranceOverNone t) (tolerance (tasksOf (t .records) (t .n)) (assigned (t .records)))
+    (sym (o .deadlines-outcome .ensures) ∙ c .before .enum-told .given .1)
 
 pub tolerances-spec : {M : Type 1} → statement M
 tolerances-spec =
     tie.close
     (tie.spec
-    tolerances-outcome-requires
+    deadlines-outcome-requires
     enum-known-outcome
     turned-away-requires
     enum-told
-    table-tolerances-requires
+    tolerances-in-range-requires
     returns
     returns-2)

@@ -9,7 +9,7 @@ use Rattle.laws.proofs.Every.{at-end}
 use Rattle.laws.proofs.Lists.{per-task-none, per-task-turn}
 use Rattle.columns.specs.Columns.{tasksBy, assignedBy}
 use Rattle.response.specs.Bounds.{responseOf}
-use Rattle.response.proofs.Bounds.{horizon-bounds}
+use Rattle.response.proofs.Bounds.{latest-bounds}
 use Rattle.response.proofs.all_responses.Statement.{statement}
 use Rattle.response.proofs.all_responses.Tie as tie
 
@@ -43,7 +43,8 @@ loop-less c = search needs
 loop-again : tie.Need-loop-again Inv-loop μ-loop
 loop-again c =
     let l = c .before .before .loop in
-    (search needs, per-task-turn (l .i) _ _ (omega arith) (l .inv .1) (c .response .ensures ∙ horizon-bounds _ _ _))
+    let r = c .before .before .before .before .pre .0 in
+    (search needs, per-task-turn (l .i) _ _ (omega arith) (l .inv .1) (c .response .ensures ∙ latest-bounds _ _ _ (omega (arith, r .jitters (l .i) (c .before .loop-test .taken), r .periods (l .i) (c .before .loop-test .taken) .1))))
 
 returns : tie.Need-returns Inv-loop μ-loop
 returns c = at-end (λ k f. perTask k f noTime) _ (c .before .before .before .args .n) (c .before .loop .inv .1) (omega arith)

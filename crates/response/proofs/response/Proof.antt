@@ -39,7 +39,7 @@ worst-requires c κs =
     let o = stands (tasksBy (a .n) (a .y .now)) (assignedBy (a .p .now) (a .h .now)) (a .i) (rankedBy (a .p .now) .h) _ (c .before .before .before .before .stand-of .ensures) (s .pre .0) (s .pre .1) (s .pre .2) in (
       s .pre .0,
       o,
-      count-bound _ _ _ _ (s .pre .0 .periods _ (o .among) .0) (level-range (tasksBy (a .n) (a .y .now)) (rankedBy (a .p .now)) (s .pre .0) (c .before .before .before .before .stand-of .result)) (sym (c .before .before .before .job-count .ensures) ∙ c .before .count .given .1),
+      count-bound _ _ _ _ (s .pre .0 .jitters _ (o .among)) (level-range (tasksBy (a .n) (a .y .now)) (rankedBy (a .p .now)) (s .pre .0) (c .before .before .before .before .stand-of .result)) (sym (c .before .before .before .job-count .ensures) ∙ c .before .count .given .1),
     )
 
 returns-2 : tie.Need-returns-2

@@ -17,6 +17,12 @@ enum-told-2 c = search needs
 fit-at-requires : tie.Need-fit-at-requires
 fit-at-requires c κs = search needs
 
+enum-told-3 : tie.Need-enum-told-3
+enum-told-3 c = search needs
+
+still-at-requires : tie.Need-still-at-requires
+still-at-requires c κs = search needs
+
 returns : tie.Need-returns
 returns c =
     let a = c .before .before .before .args in
@@ -27,6 +33,11 @@ returns-2 c =
     let a = c .before .before .before .before .args in
     c .fit-at .ensures ∙ ap (λ asked. holdsAt (a .f) asked (a .k)) (sym (c .before .before .enum-told2 .given .1))
 
+returns-3 : tie.Need-returns-3
+returns-3 c =
+    let a = c .before .before .before .args in
+    c .still-at .ensures ∙ ap (λ asked. holdsAt (a .f) asked (a .k)) (sym (c .before .enum-told3 .given .1))
+
 pub holds-at-spec : {M : Type 1} → statement M
 holds-at-spec =
-    tie.close (tie.spec enum-told keeps-at-requires enum-told-2 fit-at-requires returns returns-2)
+    tie.close (tie.spec enum-told keeps-at-requires enum-told-2 fit-at-requires enum-told-3 still-at-requires returns returns-2 returns-3)

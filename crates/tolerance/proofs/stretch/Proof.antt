@@ -1,6 +1,6 @@
 -- The invariant: after j tasks the pair is a stretch of those j.
 use Prim.Native.Nat.{_-_, _≤_}
-use mathlib.Core.Path.{_≡_}
+use mathlib.Core.Path.{_≡_, refl}
 use native.Mathlib.Omega.{arith}
 use Rattle.columns.specs.Columns.{tasksBy, rankedBy}
 use Rattle.tolerance.specs.Walk.{Stretch}
@@ -9,10 +9,10 @@ use Rattle.tolerance.proofs.stretch.Statement.{statement}
 use Rattle.tolerance.proofs.stretch.Tie as tie
 
 abbrev Inv-loop : tie.InvT-loop
-Inv-loop n y p i from rank s₀ j₀ s j = (j ≤ n) × Stretch (tasksBy j y) (rankedBy p) i from s
+Inv-loop n y p i last from rank s₀ j₀ s j = (j ≤ n) × Stretch (tasksBy j y) (rankedBy p) i last from s
 
 abbrev μ-loop : tie.MeasureT-loop
-μ-loop n y p i from rank s₀ j₀ s j = n - j
+μ-loop n y p i last from rank s₀ j₀ s j = n - j
 
 mul-rank : tie.Need-mul-rank Inv-loop μ-loop
 mul-rank c = omega arith
@@ -20,22 +20,22 @@ mul-rank c = omega arith
 element-copy-out-rank : tie.Need-element-copy-out-rank Inv-loop μ-loop
 element-copy-out-rank c = omega arith
 
-deadline-requires : tie.Need-deadline-requires Inv-loop μ-loop
-deadline-requires c κs = omega arith
-
 cost-requires : tie.Need-cost-requires Inv-loop μ-loop
 cost-requires c κs = omega arith
 
 loop-holds : tie.Need-loop-holds Inv-loop μ-loop
 loop-holds c =
-    let s = c .before .before .before in
-    (omega arith, stretch-none (s .pre .0) (s .pre .1 .0) (c .before .deadline .ensures) (c .cost .ensures) (s .pre .1 .1))
+    let s = c .before .before in
+    (omega arith, stretch-none (s .pre .0) (s .pre .1 .0) (s .pre .1 .1 .1) refl (c .cost .ensures) (s .pre .1 .1 .0))
 
 cost-requires-2 : tie.Need-cost-requires-2 Inv-loop μ-loop
 cost-requires-2 c κs = omega arith
 
 period-requires : tie.Need-period-requires Inv-loop μ-loop
 period-requires c κs = omega arith
+
+jitter-requires : tie.Need-jitter-requires Inv-loop μ-loop
+jitter-requires c κs = omega arith
 
 mul-with-task : tie.Need-mul-with-task Inv-loop μ-loop
 mul-with-task c = omega arith
@@ -45,15 +45,14 @@ element-copy-out-with-task c = omega arith
 
 with-task-requires : tie.Need-with-task-requires Inv-loop μ-loop
 with-task-requires c κs =
-    let l = c .before .before .before .before .loop in
+    let l = c .before .before .before .before .before .loop in
     let s = c .before .before .before .before .before .before .before .before in
-    let h = c .before .before .before .loop-test .taken in
-    let t = s .pre .0 .periods (l .j) h in
-    rw (c .before .before .cost2 .ensures, c .before .period .ensures) (
+    let h = c .before .before .before .before .loop-test .taken in
+    rw (c .before .before .before .cost2 .ensures, c .before .before .period .ensures, c .before .jitter .ensures) (
       s .pre .0 .costs (l .j) h .1,
-      t .0,
-      t .1,
-      omega (arith, s .pre .1 .1, s .pre .0 .deadlines (s .args .i) (s .pre .1 .0) .1),
+      s .pre .0 .jitters (l .j) h,
+      s .pre .0 .periods (l .j) h .1,
+      omega (arith, s .pre .1 .1 .0, s .pre .1 .1 .1),
       omega (arith, l .inv .1 .small, s .pre .0 .few),
     )
 
@@ -65,17 +64,17 @@ loop-less c = omega arith
 
 loop-again : tie.Need-loop-again Inv-loop μ-loop
 loop-again c =
-    let l = c .before .before .before .before .before .loop in
-    let h = c .before .before .before .before .loop-test .taken in
+    let l = c .before .before .before .before .before .before .loop in
+    let h = c .before .before .before .before .before .loop-test .taken in
     let s = c .before .before .before .before .before .before .before .before .before in (
       omega arith,
-      rw (c .with-task .ensures, c .before .before .before .cost2 .ensures, c .before .before .period .ensures)
-          (stretch-more (s .pre .0) (s .pre .1 .0) (s .pre .1 .1) h (l .inv .1)),
+      rw (c .with-task .ensures, c .before .before .before .before .cost2 .ensures, c .before .before .before .period .ensures, c .before .before .jitter .ensures)
+          (stretch-more (s .pre .0) (s .pre .1 .0) (s .pre .1 .1 .1) (s .pre .1 .1 .0) h (l .inv .1)),
     )
 
 returns : tie.Need-returns Inv-loop μ-loop
 returns c =
-    let e : c .before .loop .j ≡ c .before .before .before .before .before .args .n = omega arith in
+    let e : c .before .loop .j ≡ c .before .before .before .before .args .n = omega arith in
     rw (← e) (c .before .loop .inv .1)
 
 pub stretch-spec : {M : Type 1} → statement M
@@ -86,11 +85,11 @@ stretch-spec =
     μ-loop
     mul-rank
     element-copy-out-rank
-    deadline-requires
     cost-requires
     loop-holds
     cost-requires-2
     period-requires
+    jitter-requires
     mul-with-task
     element-copy-out-with-task
     with-task-requires

@@ -1,38 +1,49 @@
--- One division gives the jobs asked for by `from`; their product with the period is near `from`, and that with the cost at most `mostPart`.
+-- One division gives the jobs; they are few, and their products with the period and with the cost are at most `mostPart`.
+use Prim.Native.Nat.{_+_}
 use native.Mathlib.Omega.{arith}
 use native.Mathlib.Nat.{div-le-self}
 use borrow.Author.Needs.{needs}
-use Rattle.laws.proofs.Steps.{step-near}
 use Rattle.tolerance.specs.Walk.{withTask}
-use Rattle.tolerance.proofs.Stretches.{part-bound}
+use Rattle.tolerance.proofs.Stretches.{jobs-fit, part-fits, need-fits, end-past}
 use Rattle.tolerance.proofs.with_task.Statement.{statement}
 use Rattle.tolerance.proofs.with_task.Tie as tie
+
+add-jobs : tie.Need-add-jobs
+add-jobs c = search needs
+
+cast-jobs : tie.Need-cast-jobs
+cast-jobs c = search needs
+
+cast-jobs-2 : tie.Need-cast-jobs-2
+cast-jobs-2 c = search needs
 
 div-jobs : tie.Need-div-jobs
 div-jobs c = search needs
 
-add-jobs : tie.Need-add-jobs
-add-jobs c = omega (arith, div-le-self (c .before .args .from) (c .before .args .period))
+cast-jobs-3 : tie.Need-cast-jobs-3
+cast-jobs-3 c = let a = c .before .args in omega (arith, div-le-self (a .from + a .jitter) (a .period))
 
-mul-least : tie.Need-mul-least
-mul-least c = omega (arith, step-near (c .before .args .period) (c .before .args .from))
+add-jobs-2 : tie.Need-add-jobs-2
+add-jobs-2 c = record { fits = jobs-fit _ _ _ (omega arith) }
+
+mul-end : tie.Need-mul-end
+mul-end c = record { fits = part-fits _ _ _ _ (omega arith) (omega arith) }
+
+sub-end : tie.Need-sub-end
+sub-end c = end-past _ _ _ _ (omega arith) (omega arith)
+
+mul-need : tie.Need-mul-need
+mul-need c = record { fits = part-fits _ _ _ _ (omega arith) (omega arith) }
+
+add-need : tie.Need-add-need
+add-need c = record { fits = need-fits _ _ _ _ _ (omega arith) (omega arith) (omega arith) }
 
 least-requires : tie.Need-least-requires
 least-requires c κs = search needs
 
-mul-t11 : tie.Need-mul-t11
-mul-t11 c =
-    let s = c .before .before in
-    omega (arith, part-bound (s .args .from) (s .args .period) (s .args .cost) (s .pre .3) (s .pre .0))
-
-add-t12 : tie.Need-add-t12
-add-t12 c =
-    let s = c .before .before .before in
-    omega (arith, part-bound (s .args .from) (s .args .period) (s .args .cost) (s .pre .3) (s .pre .0))
-
 returns : tie.Need-returns
 unfolding withTask
-returns c = rw (c .before .before .if1 .taken, c .before .least .ensures)
+returns c = rw (c .before .before .if1 .taken, c .least .ensures)
 
 returns-2 : tie.Need-returns-2
 unfolding withTask
@@ -41,4 +52,17 @@ returns-2 c = rw (c .if1 .left)
 pub with-task-spec : {M : Type 1} → statement M
 with-task-spec =
     tie.close
-    (tie.spec div-jobs add-jobs mul-least least-requires mul-t11 add-t12 returns returns-2)
+    (tie.spec
+    add-jobs
+    cast-jobs
+    cast-jobs-2
+    div-jobs
+    cast-jobs-3
+    add-jobs-2
+    mul-end
+    sub-end
+    mul-need
+    add-need
+    least-requires
+    returns
+    returns-2)

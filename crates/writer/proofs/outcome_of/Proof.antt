@@ -10,7 +10,7 @@ use lib.ListN.{length, drop}
 use denote.Ref.{now}
 use Rattle.paper.specs.Numbers.{mostCabinet, recordsInRange}
 use Rattle.paper.specs.Refusals.{Asks, firstOf, writeAsks}
-use Rattle.paper.specs.declared.Refusal.the-variants.{WrongCounts, BlankPlate, OutOfRange, BadAssignment, BadRegions, NoRoom}
+use Rattle.paper.specs.declared.Refusal.the-variants.{WrongCounts, BlankPlate, OutOfRange, BadAssignment, BadRegions, JitterInEditionOne, NoRoom}
 use Rattle.paper.specs.declared.Outcome.{Outcome}
 use Rattle.checks.proofs.Asks.{stops, goes-on}
 use Rattle.checks.proofs.Meaning.{Counts, counts-say}
@@ -29,6 +29,9 @@ counted4 c = counted3 (c .before .before)
 
 abbrev counted5 : tie.Else5 → tie.Else1
 counted5 c = counted4 (c .before .before)
+
+abbrev counted6 : tie.Else6 → tie.Else1
+counted6 c = counted5 (c .before .before)
 
 counts-here : (c : tie.Else1) → let a = c .before .before .before .before .before .args in Counts (a .t .n) (length (now (a .own)))
 counts-here c = counts-say _ _ (sym (c .before .counts-in-range .ensures) ∙ not-false _ (c .if1 .left))
@@ -59,6 +62,9 @@ assignment-passed c e = ranges-passed (c .before .before) (goes-on BadAssignment
 
 regions-passed : (c : tie.Else5) {x : Outcome} → Left (counted5 c) 5 x → Left (counted5 c) 0 x
 regions-passed c e = assignment-passed (c .before .before) (goes-on BadRegions (ap not (sym (c .before .all-regions-hold .ensures)) ∙ c .if5 .left) e)
+
+jitter-passed : (c : tie.Else6) {x : Outcome} → Left (counted6 c) 6 x → Left (counted6 c) 0 x
+jitter-passed c e = regions-passed (c .before .before) (goes-on JitterInEditionOne (ap not (sym (c .before .unjittered .ensures)) ∙ c .if6 .left) e)
 
 counts-in-range-requires : tie.Need-counts-in-range-requires
 counts-in-range-requires c κs = search needs
@@ -96,14 +102,20 @@ all-regions-hold-requires c κs = let h = counts-here (counted4 c) in (h .tasks,
 returns-5 : tie.Need-returns-5
 returns-5 c = assignment-passed (c .before .before) (stops BadRegions _ (ap not (sym (c .before .all-regions-hold .ensures)) ∙ c .if5 .taken))
 
-file-length-requires : tie.Need-file-length-requires
-file-length-requires c κs = let h = counts-here (counted5 c) in (omega (arith, h .tasks), omega (arith, h .words))
+unjittered-requires : tie.Need-unjittered-requires
+unjittered-requires c κs = counts-here (counted5 c) .tasks
 
 returns-6 : tie.Need-returns-6
-returns-6 c = regions-passed (c .before .before) (stops NoRoom _ (ap (ltb _) (sym (c .before .file-length .ensures)) ∙ lt-ltb _ _ (c .if6 .taken)))
+returns-6 c = regions-passed (c .before .before) (stops JitterInEditionOne _ (ap not (sym (c .before .unjittered .ensures)) ∙ c .if6 .taken))
+
+file-length-requires : tie.Need-file-length-requires
+file-length-requires c κs = let h = counts-here (counted6 c) in (omega (arith, h .tasks), omega (arith, h .words))
 
 returns-7 : tie.Need-returns-7
-returns-7 c = regions-passed (c .before .before) (goes-on NoRoom (ap (ltb _) (sym (c .before .file-length .ensures)) ∙ le-ltb _ _ (c .if6 .left)) refl)
+returns-7 c = jitter-passed (c .before .before) (stops NoRoom _ (ap (ltb _) (sym (c .before .file-length .ensures)) ∙ lt-ltb _ _ (c .if7 .taken)))
+
+returns-8 : tie.Need-returns-8
+returns-8 c = jitter-passed (c .before .before) (goes-on NoRoom (ap (ltb _) (sym (c .before .file-length .ensures)) ∙ le-ltb _ _ (c .if7 .left)) refl)
 
 pub outcome-of-spec : {M : Type 1} → statement M
 outcome-of-spec =
@@ -121,6 +133,8 @@ outcome-of-spec =
     returns-4
     all-regions-hold-requires
     returns-5
-    file-length-requires
+    unjittered-requires
     returns-6
-    returns-7)
+    file-length-requires
+    returns-7
+    returns-8)

@@ -2,17 +2,18 @@
 use mathlib.Core.Path.{_≡_, sym, ap, refl, _∙_}
 use mathlib.Core.Bool.{not}
 use mathlib.Core.List.{[], _∷_}
-use Rattle.paper.specs.Refusals.{firstOf, timesAsks, tolerancesAsks, deadlineAbovePeriod}
+use Rattle.paper.specs.Refusals.{firstOf, timesAsks, deadlineAbovePeriod}
 use Rattle.paper.specs.declared.Table.{Table}
 use Rattle.paper.specs.declared.Outcome.{Outcome}
 use Rattle.paper.specs.declared.Outcome.the-variants.{Done}
 use Rattle.paper.specs.declared.Refusal.the-variants.{DeadlineAbovePeriod}
 use Rattle.checks.proofs.Asks.{stops, goes-on, first-passed, first-refused}
 use Rattle.checks.proofs.Meaning.{few}
+use Rattle.outcomes.specs.Shared.{deadlinesAsks}
 use Rattle.outcomes.proofs.Meaning.{times-done}
 use borrow.Author.Needs.{needs}
-use Rattle.outcomes.proofs.tolerances_outcome.Statement.{statement}
-use Rattle.outcomes.proofs.tolerances_outcome.Tie as tie
+use Rattle.outcomes.proofs.deadlines_outcome.Statement.{statement}
+use Rattle.outcomes.proofs.deadlines_outcome.Tie as tie
 
 abbrev table : tie.After-rs → Table
 table c = c .before .before .before .before .args .t
@@ -22,7 +23,7 @@ passed : (c : tie.After-rs) → firstOf (timesAsks (table c)) ≡ Done
 passed c = sym (c .before .before .before .times-outcome .ensures) ∙ c .before .enum-told .given .1
 
 -- so the deadlines decide
-decided : (c : tie.After-rs) {x : Outcome} → x ≡ firstOf (deadlineAbovePeriod (table c) ∷ []) → x ≡ firstOf (tolerancesAsks (table c))
+decided : (c : tie.After-rs) {x : Outcome} → x ≡ firstOf (deadlineAbovePeriod (table c) ∷ []) → x ≡ firstOf (deadlinesAsks (table c))
 decided c e = e ∙ sym (first-passed (timesAsks (table c)) (deadlineAbovePeriod (table c) ∷ []) (passed c))
 
 times-outcome-requires : tie.Need-times-outcome-requires
@@ -51,8 +52,8 @@ returns-3 : tie.Need-returns-3
 returns-3 c =
     decided (c .before .before) (goes-on DeadlineAbovePeriod (ap not (sym (c .before .deadlines-hold .ensures)) ∙ c .if1 .left) refl)
 
-pub tolerances-outcome-spec : {M : Type 1} → statement M
-tolerances-outcome-spec =
+pub deadlines-outcome-spec : {M : Type 1} → statement M
+deadlines-outcome-spec =
     tie.close
     (tie.spec
     times-outcome-requires

@@ -1,0 +1,3 @@
+pub mod Before
+pub mod Stands
+pub mod Calls

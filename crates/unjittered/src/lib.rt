@@ -1,0 +1,1 @@
+// Theorems only (proofs/): with every jitter at 0, all earlier answers stand (document 02, item 8).
