@@ -95,7 +95,7 @@ const PLATE: Plate = Plate {
     line: 12,
 };
 
-const LONGEST_FILE: usize = 440;
+const LONGEST_OF_EDITION_1: usize = 440;
 
 fn main() {
     println!("| work | core | second | ratio |\n|---|---|---|---|");
@@ -130,9 +130,9 @@ fn reading_and_writing() {
         };
     }
     let own = vec![1; 100];
-    let mut made = vec![0; LONGEST_FILE];
-    let length = file::write(PLATE, &table, &own, &[], &mut made).expect("it is a legal table");
-    assert_eq!(length, LONGEST_FILE);
+    let mut made = vec![0; LONGEST_OF_EDITION_1];
+    let length = file::write(1, PLATE, &table, &own, &[], &mut made).expect("it is a legal table");
+    assert_eq!(length, LONGEST_OF_EDITION_1);
     let mut words = vec![0u32; 100];
     let read_core = measure(20_000, || unsafe {
         core::bench_read(
@@ -152,7 +152,7 @@ fn reading_and_writing() {
     say("read, 15 tasks and 100 words", read_core, read_second);
 
     let bytes = table_bytes(&table);
-    let mut file_core = vec![0u8; LONGEST_FILE];
+    let mut file_core = vec![0u8; LONGEST_OF_EDITION_1];
     let write_core = measure(20_000, || unsafe {
         core::bench_write(
             bytes.as_ptr(),
@@ -160,12 +160,12 @@ fn reading_and_writing() {
             own.as_ptr(),
             own.len(),
             file_core.as_mut_ptr(),
-            LONGEST_FILE,
+            LONGEST_OF_EDITION_1,
         )
     });
-    let mut file_second = vec![0u8; LONGEST_FILE];
+    let mut file_second = vec![0u8; LONGEST_OF_EDITION_1];
     let write_second = measure(20_000, || {
-        file::write(PLATE, black_box(&table), &own, &[], &mut file_second).is_ok() as u64
+        file::write(1, PLATE, black_box(&table), &own, &[], &mut file_second).is_ok() as u64
     });
     assert_eq!(file_core, file_second);
     say("write, 15 tasks and 100 words", write_core, write_second);

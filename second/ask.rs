@@ -6,6 +6,7 @@
 
 use crate::analysis::Response;
 use crate::checks::Refusal;
+use crate::file::Edition;
 use crate::table::*;
 use crate::{analysis, file, lengths, listing, parts};
 use std::fmt::{Display, Write as _};
@@ -58,7 +59,7 @@ fn filled(input: &mut impl Read, buffer: &mut [u8]) -> io::Result<bool> {
 fn answer(kind: u8, body: Body) -> Option<String> {
     match kind {
         1 => read(body),
-        2 => write(body),
+        2 => write(Edition::One.number(), body),
         3 => response_times(body),
         4 => tolerances(body),
         5 => lengths(body),
@@ -68,6 +69,7 @@ fn answer(kind: u8, body: Body) -> Option<String> {
         9 => record(body),
         10 => regions(body),
         11 => name(body),
+        14 => write_edition(body),
         _ => None,
     }
 }
@@ -82,7 +84,7 @@ impl<'a> Body<'a> {
         Some(part)
     }
 
-    fn one(&mut self) -> Option<u8> {
+    pub fn one(&mut self) -> Option<u8> {
         Some(self.part(1)?[0])
     }
 
@@ -149,18 +151,28 @@ fn read(mut body: Body) -> Option<String> {
     let catalogue = body.words()?;
     let file = body.bytes()?;
     body.end()?;
-    let answer = file::read(plate, &catalogue, file, &mut out).map(|table| table_text(&table));
+    let read = file::read(plate, &catalogue, file, &mut out);
+    let answer = read.map(|(edition, table)| {
+        let number = edition.number();
+        format!("{} edition {number}", table_text(&table))
+    });
     Some(line(answer) + " out" + &spaced(&out))
 }
 
-fn write(mut body: Body) -> Option<String> {
+fn write_edition(mut body: Body) -> Option<String> {
+    let edition = body.one()?;
+    write(edition, body)
+}
+
+/// Writing once the edition is known: kind 2 has no place for it and writes edition 1.
+fn write(edition: u8, mut body: Body) -> Option<String> {
     let plate = body.plate()?;
     let mut out = lent_bytes(body.two()?);
     let table = body.table()?;
     let own = body.words()?;
     let catalogue = body.words()?;
     body.end()?;
-    let length = file::write(plate, &table, &own, &catalogue, &mut out);
+    let length = file::write(edition, plate, &table, &own, &catalogue, &mut out);
     let answer = length.map(|length| format!("file {length}"));
     Some(line(answer) + " out" + &hexadecimal(&out))
 }

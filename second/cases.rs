@@ -2,10 +2,13 @@
 //! and every refusal number of every call, at the numbers' edges, and some small streams and
 //! inputs that stand in a file each. Nothing here is random.
 
-use crate::file;
+mod editions;
+
+use crate::file::{self, Edition};
 use crate::generate::*;
 use crate::spoil::*;
 use crate::table::*;
+use editions::{editions, list_inputs_of_edition_2, show_inputs_of_edition_2};
 use std::fmt::Write as _;
 use std::io;
 
@@ -17,20 +20,27 @@ struct Case {
 }
 
 /// The calls by kind, with the numbers that each of them asks, in the order in which it asks them
-/// (document 01, "Numbers a turned-away call returns", and document 02, items 1 and 8).
-pub const CALLS: [(&str, &[u8]); 11] = [
-    ("read", &[1, 2, 18, 3, 4, 5, 6, 7, 8, 9, 10, 11, 12]),
-    ("write", &[5, 18, 9, 10, 11, 19, 12]),
-    ("response times", &[5, 9, 10, 14]),
-    ("tolerances", &[5, 9, 10, 14, 15, 16]),
-    ("lengths", &[5, 9, 10, 14, 15, 16]),
-    ("region check", &[5, 9, 10, 11, 14, 15, 16]),
-    ("first row", &[5, 9, 12]),
-    ("next row", &[5, 9, 12, 17]),
-    ("record", &[1, 2, 18, 3, 4, 5, 6, 7, 8, 9, 10, 11, 13]),
-    ("regions", &[5, 13, 11]),
-    ("name", &[9, 13]),
+/// (document 01, "Numbers a turned-away call returns", and document 02, items 1, 8 and 9). Kind 2
+/// writes edition 1, so it isn't asked 2.
+pub const CALLS: [(u8, &str, &[u8]); 12] = [
+    (1, "read", &[1, 2, 18, 3, 4, 5, 6, 7, 8, 9, 10, 11, 12]),
+    (2, "write", &[5, 18, 9, 10, 11, 19, 12]),
+    (3, "response times", &[5, 9, 10, 14]),
+    (4, "tolerances", &[5, 9, 10, 14, 15, 16]),
+    (5, "lengths", &[5, 9, 10, 14, 15, 16]),
+    (6, "region check", &[5, 9, 10, 11, 14, 15, 16]),
+    (7, "first row", &[5, 9, 12]),
+    (8, "next row", &[5, 9, 12, 17]),
+    (9, "record", &[1, 2, 18, 3, 4, 5, 6, 7, 8, 9, 10, 11, 13]),
+    (10, "regions", &[5, 13, 11]),
+    (11, "name", &[9, 13]),
+    (14, "write an edition", &[2, 5, 18, 9, 10, 11, 19, 12]),
 ];
+
+/// Where the call of this kind stands among the calls.
+pub fn place_of(kind: u8) -> Option<usize> {
+    CALLS.iter().position(|(known, ..)| *known == kind)
+}
 
 /// A kind that stays unknown, whatever calls come: a request of it ends the stored stream.
 pub const NO_KIND: u8 = 255;
@@ -40,8 +50,14 @@ pub const PLATE: Plate = Plate {
     line: 12,
 };
 
-/// The stream's requests in their order.
-struct Stream(Vec<Case>);
+/// The stream's requests in their order, and what those that come next are about.
+struct Stream {
+    cases: Vec<Case>,
+    /// The edition of the files that are read.
+    edition: Edition,
+    /// The edition that the writer is told, by kind 14. Kind 2 tells it none.
+    told: Option<Edition>,
+}
 
 fn request(kind: u8, body: &[u8]) -> Vec<u8> {
     let mut request = vec![kind];
@@ -85,7 +101,11 @@ pub fn stream() -> Vec<u8> {
 }
 
 fn all() -> Vec<Case> {
-    let mut stream = Stream(Vec::new());
+    let mut stream = Stream {
+        cases: Vec::new(),
+        edition: Edition::One,
+        told: None,
+    };
     reading(&mut stream);
     writing(&mut stream);
     response_times(&mut stream);
@@ -96,7 +116,8 @@ fn all() -> Vec<Case> {
     records(&mut stream);
     regions(&mut stream);
     names(&mut stream);
-    stream.0
+    editions(&mut stream);
+    stream.cases
 }
 
 // ---- tables and files
@@ -222,49 +243,113 @@ fn lent(table: &Table, k: usize, first: u32) -> Table {
     table
 }
 
+/// The file of edition 1.
 fn file_of(table: &Table, own: &[u32], catalogue: &[u32]) -> Vec<u8> {
-    file_on(PLATE, table, own, catalogue)
+    file_in(Edition::One, table, own, catalogue)
 }
 
-fn file_on(plate: Plate, table: &Table, own: &[u32], catalogue: &[u32]) -> Vec<u8> {
-    let mut out = [0; 512];
-    let length = file::write(plate, table, own, catalogue, &mut out).expect("a file");
+fn file_in(edition: Edition, table: &Table, own: &[u32], catalogue: &[u32]) -> Vec<u8> {
+    file_on(PLATE, edition, table, own, catalogue)
+}
+
+fn file_on(
+    plate: Plate,
+    edition: Edition,
+    table: &Table,
+    own: &[u32],
+    catalogue: &[u32],
+) -> Vec<u8> {
+    let (mut out, edition) = ([0; 512], edition.number());
+    let length = file::write(edition, plate, table, own, catalogue, &mut out).expect("a file");
     out[..length].to_vec()
 }
 
-fn two_jobs_file() -> Vec<u8> {
+/// The two jobs as a file of this edition has them: in edition 2 with jitters.
+fn two_jobs_in(edition: Edition) -> (Table, Vec<u32>) {
     let (table, own) = two_jobs();
-    file_of(&table, &own, &[])
+    match edition {
+        Edition::One => (table, own),
+        Edition::Two => (two_jobs_late(2, 1), own),
+    }
+}
+
+/// The same of the fifteen jobs, whose jitters are as large as they may be.
+fn fifteen_jobs_in(edition: Edition) -> (Table, Vec<u32>) {
+    let (mut table, own) = fifteen_jobs();
+    if edition == Edition::Two {
+        for record in &mut table.records {
+            record.jitter = record.period - 1;
+        }
+    }
+    (table, own)
+}
+
+fn two_jobs_file(edition: Edition) -> Vec<u8> {
+    let (table, own) = two_jobs_in(edition);
+    file_in(edition, &table, &own, &[])
+}
+
+fn fifteen_jobs_file(edition: Edition) -> Vec<u8> {
+    let (table, own) = fifteen_jobs_in(edition);
+    file_in(edition, &table, &own, &[])
+}
+
+/// Where a field starts, in files of both editions.
+#[derive(Clone, Copy)]
+enum At {
+    /// This bit of the head.
+    Head(usize),
+    /// This bit of the record at this place.
+    Record(usize, usize),
+    /// The first and the last spare bit of the record at this place.
+    FirstSpare(usize),
+    LastSpare(usize),
+    /// This bit behind the last record.
+    Words(usize),
+}
+
+impl At {
+    /// The bit of a file of this edition that has so many records.
+    fn bit(self, edition: Edition, n: usize) -> usize {
+        match self {
+            At::Head(bit) => bit,
+            At::Record(k, field) => in_record_of(edition, k, field),
+            At::FirstSpare(k) => in_record_of(edition, k + 1, 0) - edition.spare_bits(),
+            At::LastSpare(k) => in_record_of(edition, k + 1, 0) - 1,
+            At::Words(bit) => in_record_of(edition, n, bit),
+        }
+    }
+}
+
+/// The file of so many records with one field changed, sealed anew.
+fn changed_file(edition: Edition, n: usize, mut file: Vec<u8>, field: Field) -> Vec<u8> {
+    let (_, at, width, value) = field;
+    put(&mut file, at.bit(edition, n), width, value);
+    seal_again(&mut file);
+    file
 }
 
 /// The two jobs' file with one field changed, sealed anew.
-fn field_changed(at: usize, width: usize, value: u32) -> Vec<u8> {
-    let mut file = two_jobs_file();
-    put(&mut file, at, width, value);
-    seal_again(&mut file);
-    file
+fn field_changed(edition: Edition, field: Field) -> Vec<u8> {
+    changed_file(edition, 2, two_jobs_file(edition), field)
 }
 
-fn other_line_file() -> Vec<u8> {
-    field_changed(LINE_AT, 16, 13)
+fn other_line_file(edition: Edition) -> Vec<u8> {
+    field_changed(edition, ("another line", At::Head(LINE_AT), 16, 13))
 }
 
 /// The fifteen jobs' file with one field changed, sealed anew.
-fn field_of_fifteen_changed(at: usize, width: usize, value: u32) -> Vec<u8> {
-    let (table, words) = fifteen_jobs();
-    let mut file = file_of(&table, &words, &[]);
-    put(&mut file, at, width, value);
-    seal_again(&mut file);
-    file
+fn field_of_fifteen_changed(edition: Edition, field: Field) -> Vec<u8> {
+    changed_file(edition, 15, fifteen_jobs_file(edition), field)
 }
 
 /// The fifteen jobs' file, unassigned, with other records in place of theirs and as many in n: all
 /// else is right, length and seal too.
-fn with_records(n: u32, records: impl Fn(&[u8]) -> Vec<u8>) -> Vec<u8> {
-    let (mut table, words) = fifteen_jobs();
+fn with_records(edition: Edition, n: u32, records: impl Fn(&[u8]) -> Vec<u8>) -> Vec<u8> {
+    let (mut table, words) = fifteen_jobs_in(edition);
     clear(&mut table);
-    let mut file = file_of(&table, &words, &[]);
-    let place = in_record(0, 0) / 8..in_record(15, 0) / 8;
+    let mut file = file_in(edition, &table, &words, &[]);
+    let place = in_record_of(edition, 0, 0) / 8..in_record_of(edition, 15, 0) / 8;
     let others = records(&file[place.clone()]);
     file.splice(place, others);
     put(&mut file, N_AT, 8, n);
@@ -273,98 +358,128 @@ fn with_records(n: u32, records: impl Fn(&[u8]) -> Vec<u8>) -> Vec<u8> {
 }
 
 /// A file of sixteen records, of which the last two are the same.
-pub fn sixteen_jobs_file() -> Vec<u8> {
-    with_records(16, |records| {
+pub fn sixteen_jobs_file(edition: Edition) -> Vec<u8> {
+    with_records(edition, 16, |records| {
         let last = records.len() / 15 * 14;
         [records, &records[last..]].concat()
     })
 }
 
 /// A file of no record.
-pub fn no_jobs_file() -> Vec<u8> {
-    with_records(0, |_| Vec::new())
+pub fn no_jobs_file(edition: Edition) -> Vec<u8> {
+    with_records(edition, 0, |_| Vec::new())
 }
 
-/// What a field of the two jobs' file is changed to, and where it starts and how wide it is, in
-/// the order of the numbers that turn the file away.
-const FIELDS: [(&str, usize, usize, u32); 30] = [
-    ("edition 0", 0, 4, 0),
-    ("edition 2", 0, 4, 2),
-    ("the file is another cabinet's", CABINET_AT, 24, 70_003),
-    ("the file is another line's", LINE_AT, 16, 13),
-    ("n is 0", N_AT, 8, 0),
-    ("n is 16", N_AT, 8, 16),
-    ("m is 101", 56, 8, 101),
-    ("the length of another n", N_AT, 8, 3),
-    ("the length of another m", 56, 8, 2),
-    ("a spare bit of the head", 4, 4, 1),
-    ("a spare bit of record 1", in_record(0, 90), 6, 32),
-    ("a spare bit of record 2", in_record(1, 90), 6, 1),
-    ("a filler bit behind three words", WORDS + 60, 4, 1),
-    ("cost 0", in_record(0, 0), 20, 0),
-    ("cost 1,000,001", in_record(0, 0), 20, 1_000_001),
-    ("period 0", in_record(1, 20), 20, 0),
-    ("period 1,000,001", in_record(1, 20), 20, 1_000_001),
-    ("deadline 0", in_record(1, 40), 20, 0),
-    ("deadline 1,000,001", in_record(1, 40), 20, 1_000_001),
-    ("priorities 0 and 2", in_record(0, 60), 4, 0),
-    ("priorities 2 and 2", in_record(0, 60), 4, 2),
-    ("priorities 1 and 3", in_record(1, 60), 4, 3),
-    ("a threshold of 0", in_record(1, 64), 4, 0),
-    ("a threshold too large", in_record(0, 64), 4, 2),
-    ("a region of the empty catalogue", in_record(0, 68), 1, 1),
-    ("first region behind the last", in_record(0, 69), 7, 3),
-    ("regions that end behind the last", in_record(1, 69), 7, 2),
-    ("count 0", in_record(0, 76), 7, 0),
-    ("a sum below the cost", in_record(1, 76), 7, 1),
-    ("a region word of 0", WORDS, 20, 0),
+/// What a field is changed to: a few words that say it, where it starts, how wide it is, and its
+/// value.
+type Field = (&'static str, At, usize, u32);
+
+/// Changes of the two jobs' file, behind those of the edition, in the order of the numbers that turn
+/// the file away.
+const FIELDS: [Field; 28] = [
+    (
+        "the file is another cabinet's",
+        At::Head(CABINET_AT),
+        24,
+        70_003,
+    ),
+    ("the file is another line's", At::Head(LINE_AT), 16, 13),
+    ("n is 0", At::Head(N_AT), 8, 0),
+    ("n is 16", At::Head(N_AT), 8, 16),
+    ("m is 101", At::Head(56), 8, 101),
+    ("the length of another n", At::Head(N_AT), 8, 3),
+    ("the length of another m", At::Head(56), 8, 2),
+    ("a spare bit of the head", At::Head(4), 4, 1),
+    ("a spare bit of record 1", At::FirstSpare(0), 1, 1),
+    ("a spare bit of record 2", At::LastSpare(1), 1, 1),
+    ("a filler bit behind three words", At::Words(60), 4, 1),
+    ("cost 0", At::Record(0, 0), 20, 0),
+    ("cost 1,000,001", At::Record(0, 0), 20, 1_000_001),
+    ("period 0", At::Record(1, 20), 20, 0),
+    ("period 1,000,001", At::Record(1, 20), 20, 1_000_001),
+    ("deadline 0", At::Record(1, 40), 20, 0),
+    ("deadline 1,000,001", At::Record(1, 40), 20, 1_000_001),
+    ("priorities 0 and 2", At::Record(0, 60), 4, 0),
+    ("priorities 2 and 2", At::Record(0, 60), 4, 2),
+    ("priorities 1 and 3", At::Record(1, 60), 4, 3),
+    ("a threshold of 0", At::Record(1, 64), 4, 0),
+    ("a threshold too large", At::Record(0, 64), 4, 2),
+    ("a region of the empty catalogue", At::Record(0, 68), 1, 1),
+    ("first region behind the last", At::Record(0, 69), 7, 3),
+    ("regions that end behind the last", At::Record(1, 69), 7, 2),
+    ("count 0", At::Record(0, 76), 7, 0),
+    ("a sum below the cost", At::Record(1, 76), 7, 1),
+    ("a region word of 0", At::Words(0), 20, 0),
 ];
 
 /// The same of the fifteen jobs' file.
-const FIELDS_OF_FIFTEEN: [(&str, usize, usize, u32); 9] = [
-    ("n is 0 of fifteen", N_AT, 8, 0),
-    ("n is 16 of fifteen", N_AT, 8, 16),
-    ("n is 31 of fifteen", N_AT, 8, 31),
-    ("n is 14 of fifteen", N_AT, 8, 14),
-    ("the last spare bit of fifteen", in_record(14, 90), 6, 1),
-    ("the last deadline of fifteen 0", in_record(14, 40), 20, 0),
-    ("priority 14 of fifteen twice", in_record(14, 60), 4, 14),
-    ("threshold 15 of priority 14", in_record(13, 64), 4, 15),
-    ("the last word of fifteen 0", in_record(15, 280), 20, 0),
+const FIELDS_OF_FIFTEEN: [Field; 9] = [
+    ("n is 0 of fifteen", At::Head(N_AT), 8, 0),
+    ("n is 16 of fifteen", At::Head(N_AT), 8, 16),
+    ("n is 31 of fifteen", At::Head(N_AT), 8, 31),
+    ("n is 14 of fifteen", At::Head(N_AT), 8, 14),
+    ("the last spare bit of fifteen", At::LastSpare(14), 1, 1),
+    ("the last deadline of fifteen 0", At::Record(14, 40), 20, 0),
+    ("priority 14 of fifteen twice", At::Record(14, 60), 4, 14),
+    ("threshold 15 of priority 14", At::Record(13, 64), 4, 15),
+    ("the last word of fifteen 0", At::Words(280), 20, 0),
 ];
 
-/// Where the region words of two jobs start.
-const WORDS: usize = in_record(2, 0);
+/// A head that says it is of this edition.
+const fn said(what: &'static str, edition: u32) -> Field {
+    (what, At::Head(0), 4, edition)
+}
+
+/// A number that is no edition, and one of which the length is wrong.
+const OTHER_EDITIONS: [Field; 2] = [
+    said("edition 0", 0),
+    said("edition 2 over records of edition 1", 2),
+];
 
 /// A file on a plate, and a few words that say what it tries.
 type FileCase = (String, Plate, Vec<u8>);
 
 /// Files that reading turns away, for the calls that read a file.
-fn turned_away_files() -> Vec<FileCase> {
+fn turned_away_files(edition: Edition) -> Vec<FileCase> {
+    let mut list = wrong_files(edition);
+    list.extend(blank_files(edition));
+    list
+}
+
+/// Those of them in which cabinet and line are not 0.
+fn wrong_files(edition: Edition) -> Vec<FileCase> {
     let mut list = Vec::new();
     let mut add = |what: &str, file| list.push((what.to_string(), PLATE, file));
-    let file = two_jobs_file();
-    add("no byte at all", vec![]);
+    let file = two_jobs_file(edition);
+    // No edition can be seen in these.
+    if edition == Edition::One {
+        add("no byte at all", vec![]);
+    }
     add("21 bytes", file[..21].to_vec());
     add("a byte too many", [&file[..], &[0]].concat());
     add("a byte too few", file[..file.len() - 1].to_vec());
     add("a bit of the first cost flipped", flipped(&file, 10));
     add("a bit of the seal flipped", flipped(&file, file.len() - 1));
-    for (what, at, width, value) in FIELDS {
-        add(what, field_changed(at, width, value));
+    // Heads that say another edition than 2 stand in cases/editions.rs.
+    if edition == Edition::One {
+        for field in OTHER_EDITIONS {
+            add(field.0, field_changed(edition, field));
+        }
     }
-    let word = field_changed(WORDS + 40, 20, 1_000_001);
-    add("a region word of 1,000,001", word);
-    add("wrong line and wrong seal", flipped(&other_line_file(), 40));
-    let mut spare_and_cost = field_changed(in_record(0, 0), 20, 0);
-    put(&mut spare_and_cost, in_record(1, 90), 6, 1);
-    seal_again(&mut spare_and_cost);
-    add("a spare bit and a cost of 0", spare_and_cost);
-    for (what, at, width, value) in FIELDS_OF_FIFTEEN {
-        add(what, field_of_fifteen_changed(at, width, value));
+    for field in FIELDS {
+        add(field.0, field_changed(edition, field));
     }
-    add("sixteen records and all else right", sixteen_jobs_file());
-    add("no record and all else right", no_jobs_file());
+    let word: Field = ("a region word of 1,000,001", At::Words(40), 20, 1_000_001);
+    add(word.0, field_changed(edition, word));
+    let other_line = other_line_file(edition);
+    add("wrong line and wrong seal", flipped(&other_line, 40));
+    add("a spare bit and a cost of 0", spare_and_cost(edition));
+    for field in FIELDS_OF_FIFTEEN {
+        add(field.0, field_of_fifteen_changed(edition, field));
+    }
+    let sixteen = sixteen_jobs_file(edition);
+    add("sixteen records and all else right", sixteen);
+    add("no record and all else right", no_jobs_file(edition));
     for (what, cabinet) in [
         ("a plate of more than 24 bits", PLATE.cabinet | 1 << 24),
         ("a plate of 2^24", 1 << 24),
@@ -372,8 +487,13 @@ fn turned_away_files() -> Vec<FileCase> {
         let plate = Plate { cabinet, ..PLATE };
         list.push((what.to_string(), plate, file.clone()));
     }
-    list.extend(blank_files());
     list
+}
+
+fn spare_and_cost(edition: Edition) -> Vec<u8> {
+    let spare: Field = ("a spare bit", At::LastSpare(1), 1, 1);
+    let cost: Field = ("a cost of 0", At::Record(0, 0), 20, 0);
+    changed_file(edition, 2, field_changed(edition, spare), cost)
 }
 
 /// Nothing that reading asks of the file by itself, in these words.
@@ -383,14 +503,14 @@ const fn beside(what: &'static str) -> Fault {
 
 /// Zeros in the place of cabinet or line: by themselves, and beside something else that is asked
 /// before 18 or after it.
-fn blank_files() -> Vec<FileCase> {
+fn blank_files(edition: Edition) -> Vec<FileCase> {
     let mut list: Vec<FileCase> = Vec::new();
     for blank in BLANKS {
-        list.push(blanked(blank, beside("")));
+        list.push(blanked(edition, blank, beside("")));
     }
     for blank in alone_and_all() {
         for fault in BESIDE_ZEROS {
-            let case = blanked(blank, fault);
+            let case = blanked(edition, blank, fault);
             // A file of cabinet 0 is another cabinet's already.
             if !list
                 .iter()
@@ -400,18 +520,22 @@ fn blank_files() -> Vec<FileCase> {
             }
         }
     }
-    list.push(blanked(BOTH_LINES, ANOTHER_CABINET));
-    list.push(blanked(BOTH_CABINETS, ANOTHER_LINE));
-    list.push(blanked(BLANK_PLATE, (1, "no byte at all", Vec::clear)));
-    let (what, mut plate, file) = blanked(BLANK_FILE, beside("a plate of 2^24"));
+    list.push(blanked(edition, BOTH_LINES, ANOTHER_CABINET));
+    list.push(blanked(edition, BOTH_CABINETS, ANOTHER_LINE));
+    list.push(blanked(
+        edition,
+        BLANK_PLATE,
+        (1, "no byte at all", Vec::clear),
+    ));
+    let (what, mut plate, file) = blanked(edition, BLANK_FILE, beside("a plate of 2^24"));
     plate.cabinet = 1 << 24;
     list.push((what, plate, file));
     list
 }
 
 /// The plate and the file of the two jobs with these zeros, beside this.
-fn blanked((name, zeros): Blank, fault: Fault) -> FileCase {
-    let (mut plate, mut file) = (PLATE, two_jobs_file());
+fn blanked(edition: Edition, (name, zeros): Blank, fault: Fault) -> FileCase {
+    let (mut plate, mut file) = (PLATE, two_jobs_file(edition));
     put_blank(zeros, fault, &mut plate, &mut file);
     let (_, what, _) = fault;
     let comma = if what.is_empty() { "" } else { ", " };
@@ -430,9 +554,9 @@ const fn plate(cabinet: u32, line: u16) -> Plate {
 }
 
 /// Files that read, for these plates.
-fn nearly_blank_files() -> Vec<FileCase> {
-    let (table, own) = two_jobs();
-    let file = |plate| file_on(plate, &table, &own, &[]);
+fn nearly_blank_files(edition: Edition) -> Vec<FileCase> {
+    let (table, own) = two_jobs_in(edition);
+    let file = |plate| file_on(plate, edition, &table, &own, &[]);
     NEARLY_BLANK
         .map(|(what, plate)| (what.to_string(), plate, file(plate)))
         .to_vec()
@@ -450,27 +574,61 @@ fn flipped(file: &[u8], byte: usize) -> Vec<u8> {
 impl Stream {
     fn add(&mut self, kind: u8, what: &str, body: Vec<u8>) {
         let what = what.to_string();
-        self.0.push(Case { kind, what, body });
+        self.cases.push(Case { kind, what, body });
+    }
+
+    /// A request that reads a file; what it tries names edition 2.
+    fn add_reading(&mut self, kind: u8, what: &str, body: Vec<u8>) {
+        let what = in_words(self.edition, what);
+        self.add(kind, &what, body);
     }
 
     fn read(&mut self, what: &str, room: u32, lent: &[u32], file: &[u8]) {
-        self.add(1, what, read_body(PLATE, room, lent, file));
+        self.add_reading(1, what, read_body(PLATE, room, lent, file));
     }
 
     /// What both calls that read a file are asked, with this room or this record's number.
     fn files(&mut self, kind: u8, room_or_record: u32) {
-        for (what, plate, file) in turned_away_files().iter().chain(&nearly_blank_files()) {
-            self.add(kind, what, read_body(*plate, room_or_record, &[], file));
+        let mut files = turned_away_files(self.edition);
+        files.extend(nearly_blank_files(self.edition));
+        for (what, plate, file) in files {
+            self.add_reading(kind, &what, read_body(plate, room_or_record, &[], &file));
         }
     }
 
     fn record(&mut self, what: &str, number: u32, lent: &[u32], file: &[u8]) {
-        self.add(9, what, read_body(PLATE, number, lent, file));
+        self.add_reading(9, what, read_body(PLATE, number, lent, file));
     }
 
     /// Writes for the plate of the two jobs, with an empty catalogue.
     fn write(&mut self, what: &str, room: u32, table: &Table, own: &[u32]) {
-        self.add(2, what, write_body(PLATE, room, table, own, &[]));
+        self.write_on(PLATE, what, room, table, (own, &[]));
+    }
+
+    /// The same for any plate, and with a catalogue behind the own words. A room that is given for a
+    /// file of edition 1 grows as the file does, but for no room.
+    fn write_on(
+        &mut self,
+        plate: Plate,
+        what: &str,
+        room: u32,
+        table: &Table,
+        (own, lent): (&[u32], &[u32]),
+    ) {
+        let Some(edition) = self.told else {
+            return self.add(2, what, write_body(plate, room, table, own, lent));
+        };
+        let bytes = edition.record_bytes() - Edition::One.record_bytes();
+        let longer = bytes as u32 * table.n.min(MOST_TASKS as u8) as u32;
+        let room = if room == 0 { 0 } else { room + longer };
+        let body = write_body(plate, room, table, own, lent);
+        self.write_told(edition.number(), what, body);
+    }
+
+    /// Writes by kind 14, with this number for the edition before what kind 2 has.
+    fn write_told(&mut self, edition: u8, what: &str, body: Vec<u8>) {
+        let what = format!("edition {edition}, {what}");
+        self.add(14, &what, [vec![edition], body].concat());
     }
 
     /// Response times, tolerances or lengths.
@@ -504,6 +662,14 @@ impl Stream {
 
     fn name(&mut self, what: &str, number: u32, cabinet: &[u8], house: &[u8]) {
         self.add(11, what, name_body(number, cabinet, house));
+    }
+}
+
+/// What a request tries that is about a file of this edition.
+fn in_words(edition: Edition, what: &str) -> String {
+    match edition {
+        Edition::One => what.to_string(),
+        Edition::Two => format!("edition 2, {what}"),
     }
 }
 
@@ -548,35 +714,35 @@ fn name_body(number: u32, cabinet: &[u8], house: &[u8]) -> Vec<u8> {
 }
 
 fn reading(stream: &mut Stream) {
-    let file = two_jobs_file();
+    let edition = stream.edition;
+    let in_edition = |table: &Table, own: &[u32], lent: &[u32]| file_in(edition, table, own, lent);
+    let file = two_jobs_file(edition);
     stream.read("room for just its words", 3, &[], &file);
     stream.read("room for more", 5, &[], &file);
     stream.read("room for one word less", 2, &[], &file);
     stream.read("no room", 0, &[], &file);
     stream.read("a line longer than a buffer", 6100, &[], &file);
-    let (table, own) = two_jobs();
-    let cleared = file_of(&changed(clear), &own, &[]);
-    stream.read("unassigned", 3, &[], &cleared);
+    let (table, own) = two_jobs_in(edition);
+    let mut cleared = table;
+    clear(&mut cleared);
+    stream.read("unassigned", 3, &[], &in_edition(&cleared, &own, &[]));
     let (one, word) = unassigned(&[(1, 1, 1)]);
-    stream.read("one task, one word", 1, &[], &file_of(&one, &word, &[]));
-    let shortest = file_of(&lent(&one, 0, 0), &[], &[1]);
+    let file_of_one = in_edition(&one, &word, &[]);
+    stream.read("one task, one word", 1, &[], &file_of_one);
+    let shortest = in_edition(&lent(&one, 0, 0), &[], &[1]);
     stream.read("the shortest file: no word", 0, &[1], &shortest);
     stream.read("the same, another catalogue", 0, &[2], &shortest);
-    let (fifteen, mut words) = fifteen_jobs();
-    let file_of_fifteen = file_of(&fifteen, &words, &[]);
+    let (fifteen, mut words) = fifteen_jobs_in(edition);
+    let file_of_fifteen = in_edition(&fifteen, &words, &[]);
     stream.read("fifteen tasks", 15, &[], &file_of_fifteen);
     words.resize(100, 1_000_000);
-    let longest = file_of(&fifteen, &words, &[]);
+    let longest = in_edition(&fifteen, &words, &[]);
     stream.read("the longest file: 100 words", 100, &[], &longest);
     stream.read("the same, room for 99", 99, &[], &longest);
     let (largest, words) = unassigned(&[(1_000_000, 1_000_000, 1_000_000)]);
-    stream.read(
-        "the largest numbers",
-        1,
-        &[],
-        &file_of(&largest, &words, &[]),
-    );
-    let of_catalogue = file_of(&lent(&table, 0, 1), &own, &[0, 2]);
+    let largest = in_edition(&largest, &words, &[]);
+    stream.read("the largest numbers", 1, &[], &largest);
+    let of_catalogue = in_edition(&lent(&table, 0, 1), &own, &[0, 2]);
     stream.read(
         "a catalogue's 0 that no record names",
         3,
@@ -585,8 +751,8 @@ fn reading(stream: &mut Stream) {
     );
     stream.read("a catalogue too short", 3, &[2], &of_catalogue);
     stream.files(1, 3);
-    let (what, plate, file) = blanked(ALL_BLANK, beside("no room"));
-    stream.add(1, &what, read_body(plate, 0, &[], &file));
+    let (what, plate, file) = blanked(edition, ALL_BLANK, beside("no room"));
+    stream.add_reading(1, &what, read_body(plate, 0, &[], &file));
 }
 
 /// A change of one record of the two jobs, by its place.
@@ -760,16 +926,18 @@ fn writing(stream: &mut Stream) {
     });
     stream.write("a cost of 0 and a bad assignment", 42, &both, &own);
     let from_catalogue = lent(&table, 0, 1);
-    let named = write_body(PLATE, 42, &from_catalogue, &own, &[0, 2]);
-    stream.add(2, "a catalogue's 0 that no record names", named);
-    let short = write_body(PLATE, 42, &from_catalogue, &own, &[2]);
-    stream.add(2, "a catalogue too short", short);
+    for (what, catalogue) in [
+        ("a catalogue's 0 that no record names", &[0, 2][..]),
+        ("a catalogue too short", &[2]),
+    ] {
+        stream.write_on(PLATE, what, 42, &from_catalogue, (&own, catalogue));
+    }
     for (what, cabinet) in [("24 bits", MOST_CABINET), ("25 bits", MOST_CABINET + 1)] {
         let plate = plate(cabinet, u16::MAX);
-        stream.add(2, what, write_body(plate, 42, &table, &own, &[]));
+        stream.write_on(plate, what, 42, &table, (&own, &[]));
     }
     for (what, plate) in NEARLY_BLANK {
-        stream.add(2, what, write_body(plate, 42, &table, &own, &[]));
+        stream.write_on(plate, what, 42, &table, (&own, &[]));
     }
     writing_blank(stream);
     writing_late(stream);
@@ -783,8 +951,7 @@ fn writing_blank(stream: &mut Stream) {
         let mut plate = PLATE;
         put_zeros(zeros, &mut plate, &mut []);
         let mut write = |what: &str, room, table: &Table| {
-            let body = write_body(plate, room, table, &own, &[]);
-            stream.add(2, &format!("{name}{what}"), body);
+            stream.write_on(plate, &format!("{name}{what}"), room, table, (&own, &[]));
         };
         write("", 42, &table);
         write(", n is 0", 42, &changed(|table| table.n = 0));
@@ -795,13 +962,14 @@ fn writing_blank(stream: &mut Stream) {
         write(", room for one byte less", 41, &table);
     }
     let (fifteen, _) = fifteen_jobs();
-    let words = write_body(plate(0, 0), 500, &fifteen, &[1; 101], &[]);
-    stream.add(2, "a blank plate, 101 words", words);
-    let wide = write_body(plate(1 << 24, 0), 42, &table, &own, &[]);
-    stream.add(2, "the plate's line is 0, its cabinet 25 bits", wide);
+    let words = &[1; 101];
+    let what = "a blank plate, 101 words";
+    stream.write_on(plate(0, 0), what, 500, &fifteen, (words, &[]));
+    let what = "the plate's line is 0, its cabinet 25 bits";
+    stream.write_on(plate(1 << 24, 0), what, 42, &table, (&own, &[]));
 }
 
-/// Document 02, item 8: no jitter can be written, and 19 says so after 11 and before 12.
+/// Document 02, item 8: no jitter can be written as edition 1, and 19 says so after 11 and before 12.
 fn writing_late(stream: &mut Stream) {
     let (_, own) = two_jobs();
     for (what, table) in jitter_tables() {
@@ -827,7 +995,7 @@ fn writing_late(stream: &mut Stream) {
         ("a jitter, a blank plate", plate(0, 0)),
         ("a jitter, cabinet 25 bits", plate(1 << 24, 12)),
     ] {
-        stream.add(2, what, write_body(plate, 42, &one, &own, &[]));
+        stream.write_on(plate, what, 42, &one, (&own, &[]));
     }
     let (mut fifteen, words) = fifteen_jobs();
     fifteen.records[14].jitter = 1;
@@ -1610,24 +1778,25 @@ const BAD_ROWS: [(&str, &[u8]); 9] = [
 ];
 
 fn records(stream: &mut Stream) {
-    let file = two_jobs_file();
+    let edition = stream.edition;
+    let file = two_jobs_file(edition);
     stream.record("record 1", 1, &[], &file);
     stream.record("record 2", 2, &[], &file);
     stream.record("record 0", 0, &[], &file);
     stream.record("record 3 of two", 3, &[], &file);
     stream.record("record 65,535", 65_535, &[], &file);
-    let (fifteen, words) = fifteen_jobs();
-    let fifteen = file_of(&fifteen, &words, &[]);
+    let fifteen = fifteen_jobs_file(edition);
     stream.record("record 15 of fifteen", 15, &[], &fifteen);
     stream.record("record 16 of fifteen", 16, &[], &fifteen);
-    let (table, own) = two_jobs();
-    let of_catalogue = file_of(&lent(&table, 0, 0), &own, &[2]);
+    let (table, own) = two_jobs_in(edition);
+    let of_catalogue = file_in(edition, &lent(&table, 0, 0), &own, &[2]);
     stream.record("regions in the catalogue", 1, &[2], &of_catalogue);
     stream.record("the same, another catalogue", 1, &[3], &of_catalogue);
     stream.files(9, 1);
-    let (what, plate, file) = blanked(ALL_BLANK, beside("no such record"));
-    stream.add(9, &what, read_body(plate, 3, &[], &file));
-    stream.record("no such record of another line", 9, &[], &other_line_file());
+    let (what, plate, file) = blanked(edition, ALL_BLANK, beside("no such record"));
+    stream.add_reading(9, &what, read_body(plate, 3, &[], &file));
+    let other_line = other_line_file(edition);
+    stream.record("no such record of another line", 9, &[], &other_line);
 }
 
 fn regions(stream: &mut Stream) {
@@ -1716,24 +1885,29 @@ pub fn refusals() -> String {
          answers: line k answers request k. Both and this page are written by the second program \
          (`second cases`, `second ask`, `second refusals`); `tools/make-cases` makes them anew. \
          Document 01, \"Numbers a turned-away call returns\", lists the numbers that each call asks. \
-         Document 02 adds 18 in item 1 and in item 8 the writing's 19 and the tolerances' 16. They stand here \
+         Document 02 adds 18 in item 1, in item 8 the writing's 19 and the tolerances' 16, and in item 9 the \
+         writing's 2. They stand here \
          in the order in which a call asks them, so that the first that applies is the one it gives: mostly the \
          lowest, but 18 is asked straight after 2 in reading and straight after 5 in writing, 19 between 11 and \
          12 in writing, and 13 before 11 for a record's regions.\n\n\
+         2 is an edition that is neither 1 nor 2: the one that stands in a file's head, or the one that the writer \
+         is told, which is asked first of all. `write` is told none and writes edition 1, so it can't give 2. 19, a \
+         jitter that isn't 0, is asked of edition 1 alone: edition 2 has a place for it. 6 and 8 read the edition, \
+         as length and spare bits are its own; 1 doesn't, and is a file under 22 bytes in both.\n\n\
          ## By call and number\n\n\
          | call | number | lines |\n|---|---|---|\n",
     );
-    for (place, (call, numbers)) in CALLS.iter().enumerate() {
-        for number in *numbers {
-            let lines = lines_of(&cases, place as u8 + 1, Some(*number));
+    for (kind, call, numbers) in CALLS {
+        for number in numbers {
+            let lines = lines_of(&cases, kind, Some(*number));
             let _ = writeln!(text, "| {call} | {number} | {lines} |");
         }
-        let lines = lines_of(&cases, place as u8 + 1, None);
+        let lines = lines_of(&cases, kind, None);
         let _ = writeln!(text, "| {call} | not turned away | {lines} |");
     }
     text += "\n## By line\n\n| line | call | answer | case |\n|---|---|---|---|\n";
     for (place, case) in cases.iter().enumerate() {
-        let call = CALLS[case.kind as usize - 1].0;
+        let call = place_of(case.kind).map_or("", |place| CALLS[place].1);
         let answer = shortened(&case.answer());
         let _ = writeln!(
             text,
@@ -1794,6 +1968,8 @@ fn ask_streams() -> Vec<(String, Vec<u8>)> {
     let longest = name_body(0, &[b'x'; 4090], &[]);
     let too_long = name_body(0, &[b'x'; 4091], &[]);
     let no_kind = format!("kind {NO_KIND}");
+    let (table, own) = two_jobs();
+    let written = write_body(PLATE, 48, &table, &own, &[]);
     let mut list = vec![
         ("empty".to_string(), vec![]),
         ("one".to_string(), good.clone()),
@@ -1810,6 +1986,12 @@ fn ask_streams() -> Vec<(String, Vec<u8>)> {
         ("body longest", request(11, &longest)),
         ("body too long", request(11, &too_long)),
         ("bad before good", [request(0, &[]), good.clone()].concat()),
+        ("edition missing", request(14, &written)),
+        ("edition alone", request(14, &[2])),
+        (
+            "edition before kind 2",
+            request(2, &[&[1], &written[..]].concat()),
+        ),
     ] {
         list.push((name.to_string(), [&good[..], &tail].concat()));
     }
@@ -1854,7 +2036,7 @@ fn list_inputs() -> Vec<(String, Vec<u8>)> {
             input(&[(2, 4, 4), (1, 7, 7), (2, 6, 6)]),
         ),
         ("last job late", input(&[(2, 4, 4), (1, 7, 7), (2, 6, 5)])),
-        ("assigned", plated(PLATE, &two_jobs_file())),
+        ("assigned", plated(PLATE, &two_jobs_file(Edition::One))),
         ("empty", vec![]),
         ("four bytes", paper[..4].to_vec()),
         ("plate alone", paper[..5].to_vec()),
@@ -1866,15 +2048,16 @@ fn list_inputs() -> Vec<(String, Vec<u8>)> {
     ] {
         list.push((name.to_string(), input));
     }
-    for (what, plate, file) in nearly_blank_files() {
+    for (what, plate, file) in nearly_blank_files(Edition::One) {
         list.push((what, plated(plate, &file)));
     }
-    for (what, plate, file) in turned_away_files() {
+    for (what, plate, file) in turned_away_files(Edition::One) {
         // No plate on the input is above 24 bits.
         if plate.cabinet <= MOST_CABINET {
             list.push((format!("refused {what}"), plated(plate, &file)));
         }
     }
+    list.extend(list_inputs_of_edition_2());
     list
 }
 
@@ -1890,7 +2073,7 @@ fn show_inputs() -> Vec<(String, Vec<u8>)> {
     let mut list = Vec::new();
     for (name, input) in [
         ("unassigned", input(unassigned(&[(2, 5, 6), B]))),
-        ("all well", plated(PLATE, &two_jobs_file())),
+        ("all well", plated(PLATE, &two_jobs_file(Edition::One))),
         ("region too long", input(assigned(&[short, B], &order))),
         ("region just as long", input(three_and_one(short))),
         (
@@ -1926,24 +2109,31 @@ fn show_inputs() -> Vec<(String, Vec<u8>)> {
             "later unassigned",
             input(unassigned(&[(3, 6, 6), (2, 4, 6)])),
         ),
-        ("another line", plated(PLATE, &other_line_file())),
-        ("damaged", plated(PLATE, &flipped(&two_jobs_file(), 10))),
+        (
+            "another line",
+            plated(PLATE, &other_line_file(Edition::One)),
+        ),
+        (
+            "damaged",
+            plated(PLATE, &flipped(&two_jobs_file(Edition::One), 10)),
+        ),
         ("plate alone", plated(PLATE, &[])),
         ("four bytes", plated(PLATE, &[])[..4].to_vec()),
     ] {
         list.push((name.to_string(), input));
     }
     for blank in [BLANK_FILE, BLANK_PLATE, ALL_BLANK] {
-        let (name, plate, file) = blanked(blank, beside(""));
+        let (name, plate, file) = blanked(Edition::One, blank, beside(""));
         list.push((name, plated(plate, &file)));
     }
     for fault in BESIDE_ZEROS {
         // Of the numbers behind 18 one is enough here.
         if [1, 2, 5].contains(&fault.0) {
-            let (name, plate, file) = blanked(ALL_BLANK, fault);
+            let (name, plate, file) = blanked(Edition::One, ALL_BLANK, fault);
             list.push((name, plated(plate, &file)));
         }
     }
+    list.extend(show_inputs_of_edition_2());
     list
 }
 
@@ -1951,18 +2141,15 @@ fn show_inputs() -> Vec<(String, Vec<u8>)> {
 #[test]
 fn every_refusal_is_reached() {
     let cases = all();
-    for (place, (call, numbers)) in CALLS.iter().enumerate() {
+    for (kind, call, numbers) in CALLS {
         for number in 1..=19 {
-            let lines = lines_of(&cases, place as u8 + 1, Some(number));
+            let lines = lines_of(&cases, kind, Some(number));
             assert_eq!(
                 lines.is_empty(),
                 !numbers.contains(&number),
                 "{call} {number}"
             );
         }
-        assert!(
-            !lines_of(&cases, place as u8 + 1, None).is_empty(),
-            "{call}"
-        );
+        assert!(!lines_of(&cases, kind, None).is_empty(), "{call}");
     }
 }

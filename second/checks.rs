@@ -78,9 +78,9 @@ pub fn ticks_wrong(ticks: u32) -> bool {
     ticks < 1 || ticks > MOST_TICKS
 }
 
-/// 19: edition 1 has no place for a jitter, so a table is written as such a file only where every
-/// one is 0.
-pub fn jitter_without_a_place(table: &Table) -> bool {
+/// 19, of edition 1: it has no place for a jitter, so a table is written as such a file only where
+/// every one is 0.
+pub fn some_jitter(table: &Table) -> bool {
     table.tasks().iter().any(|task| task.jitter != 0)
 }
 

@@ -3,6 +3,7 @@
 
 use crate::analysis::{blocking, finish, passes, response, response_times, start};
 use crate::analysis::{Response, Tasks};
+use crate::file::Edition;
 use crate::lengths::{lengths, tolerances};
 use crate::random::Random;
 use crate::table::*;
@@ -10,6 +11,8 @@ use crate::table::*;
 /// A cabinet as the writer would take it, but for what a later step makes wrong.
 pub struct Cabinet {
     pub plate: Plate,
+    /// The edition of its file; the first, unless one is given.
+    pub edition: Edition,
     pub table: Table,
     pub own: Vec<u32>,
     pub catalogue: Vec<u32>,
@@ -39,6 +42,7 @@ pub fn cabinet(random: &mut Random, n: u32, lent: bool) -> Cabinet {
     };
     let mut cabinet = Cabinet {
         plate: plate(random),
+        edition: Edition::One,
         table: tasks(random, mood, n),
         own: Vec::new(),
         catalogue: if lent { catalogue(random) } else { Vec::new() },
@@ -350,6 +354,31 @@ fn order_by_deadline(table: &mut Table) {
     }
 }
 
+// ---- editions
+
+/// Makes half of the files edition 2, and gives half of those a jitter.
+pub fn give_edition(random: &mut Random, cabinet: &mut Cabinet) {
+    cabinet.edition = random.one_of(&Edition::BOTH);
+    if cabinet.edition == Edition::Two {
+        give_jitters(random, &mut cabinet.table);
+        if is_late(&cabinet.table) && random.once_in(3) {
+            one_late_record(random, &mut cabinet.table);
+        }
+    }
+}
+
+/// Leaves the jitter to one record, mostly the last, behind which the region words stand.
+fn one_late_record(random: &mut Random, table: &mut Table) {
+    let last = table.n as usize - 1;
+    let any = random.place(last + 1);
+    let k = random.one_of(&[any, last, last]);
+    for record in &mut table.records[..=last] {
+        record.jitter = 0;
+    }
+    table.records[k].jitter = any_jitter(random, table.records[k].period);
+    at_least_one(table);
+}
+
 // ---- jitter
 
 /// Whether some task has a jitter.
@@ -642,7 +671,8 @@ pub const SOME_TASKS: u32 = 8;
 pub fn near_table(random: &mut Random, late: bool) -> Table {
     let some = random.from(MANY_TASKS, SOME_TASKS);
     let more = random.from(SOME_TASKS + 1, MOST_TASKS as u32);
-    let n = random.one_of(&[some, more]);
+    // There are four sizes of some tasks, and seven of more.
+    let n = random.one_of(&[some, some, more, more, more]);
     let row_of_all = random.once_in(2);
     loop {
         let mut table = light_table(random, n, late);

@@ -6,7 +6,7 @@
 use crate::analysis::{active_period, arrived, Tasks};
 use crate::checks::{numbers_wrong, task_count_wrong};
 use crate::draw::*;
-use crate::file;
+use crate::file::{self, Edition};
 use crate::later::{later_jobs, later_row};
 use crate::listing::{Row, Walk};
 use crate::random::Random;
@@ -14,26 +14,33 @@ use crate::spoil::*;
 use crate::table::*;
 
 /// The kinds as often as they are drawn: more often those that have more to reach.
-const KINDS: [u8; 32] = [
+const KINDS: [u8; 35] = [
     1, 1, 1, 2, 2, 3, 3, 3, 4, 4, 5, 5, 5, 6, 6, 6, 6, 7, 7, 7, 8, 8, 8, 9, 9, 9, 10, 10, 10, 11,
-    11, 11,
+    11, 11, 14, 14, 14,
 ];
 
 /// How many single requests stand between two files that are cut at every length and blanked in
 /// every place.
 const BETWEEN_CUTS: u64 = 10_000;
+/// How many stand between two cabinets whose files are spoiled in all that the editions differ in.
+const BETWEEN_EDITIONS: u64 = 4_000;
 
 pub fn stream(seed: u64, count: u64, out: &mut impl FnMut(&[u8])) {
     let random = &mut Random::new(seed);
     for k in 0..count {
+        if k == 0 {
+            for edition in Edition::BOTH {
+                every_cut(&longest_cabinet(random, edition), out);
+            }
+        }
         if k % BETWEEN_CUTS == 0 {
-            let cabinet = if k == 0 {
-                longest_cabinet(random)
-            } else {
-                any_cabinet(random)
-            };
+            let mut cabinet = any_cabinet(random);
+            give_edition(random, &mut cabinet);
             every_cut(&cabinet, out);
             every_zero(&cabinet, out);
+        }
+        if k % BETWEEN_EDITIONS == 0 {
+            every_edition(random, out);
         }
         let kind = random.one_of(&KINDS);
         let body = body(random, kind);
@@ -52,12 +59,24 @@ fn put_request(kind: u8, body: &[u8], out: &mut impl FnMut(&[u8])) {
     out(&request);
 }
 
-/// A cabinet whose file is as long as any.
-fn longest_cabinet(random: &mut Random) -> Cabinet {
+/// A cabinet whose file is as long as any of this edition.
+fn longest_cabinet(random: &mut Random, edition: Edition) -> Cabinet {
     loop {
         let mut cabinet = cabinet(random, MOST_TASKS as u32, true);
         cabinet.own.resize(MOST_REGION_WORDS, 1);
         if cabinet.table.n as usize == MOST_TASKS {
+            cabinet.edition = edition;
+            return cabinet;
+        }
+    }
+}
+
+/// A cabinet of one task whose file has no region words, and is as short as any of this edition.
+fn shortest_cabinet(random: &mut Random, edition: Edition) -> Cabinet {
+    loop {
+        let mut cabinet = cabinet(random, 1, true);
+        if cabinet.own.is_empty() {
+            cabinet.edition = edition;
             return cabinet;
         }
     }
@@ -90,6 +109,70 @@ fn every_zero(cabinet: &Cabinet, out: &mut impl FnMut(&[u8])) {
     }
 }
 
+/// All that the editions differ in: of a cabinet of several tasks in both, and of the longest file of
+/// edition 2 and the shortest.
+fn every_edition(random: &mut Random, out: &mut impl FnMut(&[u8])) {
+    let mut cabinet = loop {
+        let cabinet = any_cabinet(random);
+        if cabinet.table.n > 1 {
+            break cabinet;
+        }
+    };
+    for edition in Edition::BOTH {
+        cabinet.edition = edition;
+        for (at, width, value) in changes(&cabinet) {
+            let mut file = whole_file(&cabinet);
+            put(&mut file, at, width, value);
+            put_sealed(&cabinet, file, out);
+        }
+    }
+    beside_its_length(&longest_cabinet(random, Edition::Two), out);
+    beside_its_length(&shortest_cabinet(random, Edition::Two), out);
+}
+
+/// Each number in the edition's place, each spare bit, and each jitter at its limits and past them: at
+/// which bit, how wide, and what it becomes.
+fn changes(cabinet: &Cabinet) -> Vec<(usize, usize, u32)> {
+    let edition = cabinet.edition;
+    let mut changes: Vec<(usize, usize, u32)> = (0..16).map(|number| (0, 4, number)).collect();
+    for k in [0, cabinet.table.n as usize - 1] {
+        let places = 0..edition.spare_bits();
+        changes.extend(places.map(|place| (spare_at(edition, k) + place, 1, 1)));
+        let period = cabinet.table.records[k].period;
+        let at = in_record_of(edition, k, file::USED_BITS);
+        if edition == Edition::Two {
+            let jitters = [1, period - 1, period, period + 1, MOST_IN_A_FIELD];
+            changes.extend(jitters.map(|jitter| (at, 20, jitter)));
+        }
+    }
+    changes
+}
+
+/// A file of edition 2 with a jitter in its last record, just before the region words, and with a
+/// length about its own.
+fn beside_its_length(cabinet: &Cabinet, out: &mut impl FnMut(&[u8])) {
+    let mut file = whole_file(cabinet);
+    let last = cabinet.table.n as usize - 1;
+    let most = cabinet.table.records[last].period - 1;
+    put(
+        &mut file,
+        in_record_of(cabinet.edition, last, file::USED_BITS),
+        20,
+        most,
+    );
+    for bytes in file.len() - 3..=file.len() + 1 {
+        let mut file = file.clone();
+        file.resize(bytes, 0);
+        put_sealed(cabinet, file, out);
+    }
+}
+
+/// The cabinet's file, changed and sealed again.
+fn put_sealed(cabinet: &Cabinet, mut file: Vec<u8>, out: &mut impl FnMut(&[u8])) {
+    seal_again(&mut file);
+    put_read(cabinet.plate, &cabinet.catalogue, &file, out);
+}
+
 /// Both requests that read a file: with room for all words, and for its first record.
 fn put_read(plate: Plate, catalogue: &[u32], file: &[u8], out: &mut impl FnMut(&[u8])) {
     for kind in [1, 9] {
@@ -116,7 +199,8 @@ pub fn input(random: &mut Random, k: u64) -> Vec<u8> {
         // A table of six has half a million rows, so few of them.
         let some = random.one_of(&[1, 2, 3, 4, 4, 5, 5]);
         let n = if random.once_in(25) { 6 } else { some };
-        let cabinet = cabinet(random, n, false);
+        let mut cabinet = cabinet(random, n, false);
+        give_edition(random, &mut cabinet);
         if soon_tried(&cabinet.table) {
             break cabinet;
         }
@@ -147,6 +231,7 @@ fn turned_away_input(random: &mut Random, number: u8) -> Vec<u8> {
     let (plate, mut file) = loop {
         let n = random.from(1, MOST_TASKS as u32);
         let mut cabinet = cabinet(random, n, false);
+        give_edition(random, &mut cabinet);
         let file = any_file(random, &mut cabinet);
         // No plate on the input is above 24 bits.
         cabinet.plate.cabinet &= MOST_CABINET;
@@ -157,7 +242,7 @@ fn turned_away_input(random: &mut Random, number: u8) -> Vec<u8> {
     };
     if number == 6 && random.once_in(2) {
         // Longer than any file is, so that it can't become the right length.
-        file.resize(random.from(450, 700) as usize, 0);
+        file.resize(random.from(486, 700) as usize, 0);
     }
     let mut input = plated(plate, &file);
     if number == 1 && random.once_in(2) {
@@ -175,7 +260,7 @@ pub fn plated(plate: Plate, file: &[u8]) -> Vec<u8> {
 fn body(random: &mut Random, kind: u8) -> Vec<u8> {
     match kind {
         1 | 9 => of_a_file(random, kind),
-        2 => of_writing(random),
+        2 | 14 => of_writing(random, kind),
         3..=6 => of_analysis(random, kind),
         7 | 8 => of_rows(random, kind),
         10 => of_regions(random),
@@ -198,9 +283,17 @@ fn any_cabinet(random: &mut Random) -> Cabinet {
     cabinet
 }
 
+/// How often a file that is drawn is as long as any, and how often it is as short.
+const LIMITS_ONCE_IN: u32 = 30;
+
 /// Reading, and a record out of a file.
 fn of_a_file(random: &mut Random, kind: u8) -> Vec<u8> {
-    let mut cabinet = any_cabinet(random);
+    let mut cabinet = match random.from(1, LIMITS_ONCE_IN) {
+        1 => longest_cabinet(random, Edition::One),
+        2 => shortest_cabinet(random, Edition::One),
+        _ => any_cabinet(random),
+    };
+    give_edition(random, &mut cabinet);
     let file = any_file(random, &mut cabinet);
     let mut body = Vec::new();
     put_plate(&mut body, cabinet.plate);
@@ -239,31 +332,57 @@ fn record_number(random: &mut Random, n: u8) -> u32 {
     random.one_of(&[some, some, some, n, 1, 0, n + 1, some + 256, 65_535])
 }
 
-/// The tables that are written are late once in so many: an edition 1 file has no place for a
-/// jitter, and most are to be written.
+/// The tables that are written as edition 1 alone are late once in so many: such a file has no place
+/// for a jitter, and most are to be written.
 const LATE_WRITING_ONCE_IN: u32 = 4;
 
-fn of_writing(random: &mut Random) -> Vec<u8> {
+/// Writing edition 1, and writing an edition that is told.
+fn of_writing(random: &mut Random, kind: u8) -> Vec<u8> {
     let mut cabinet = any_cabinet(random);
-    if random.once_in(LATE_WRITING_ONCE_IN) {
+    let told = if kind == 14 { told_edition(random) } else { 1 };
+    if random.once_in(if kind == 14 { 2 } else { LATE_WRITING_ONCE_IN }) {
         draw_jitters(random, &mut cabinet.table);
     }
     wrong_jitter_once_in(5, random, &mut cabinet.table);
-    spoil(random, &mut cabinet, &[0, 5, 9, 10, 11]);
+    // What is told no edition is turned away by that alone more often than beside something else.
+    if Edition::from_number(told).is_ok() || random.once_in(2) {
+        spoil(random, &mut cabinet, &[0, 5, 9, 10, 11]);
+    }
     if random.once_in(12) {
         cabinet.plate.cabinet = random.one_of(&[MOST_CABINET, MOST_CABINET + 1, u32::MAX]);
     }
     if random.once_in(BLANK_ONCE_IN) {
         blank_plate(random, &mut cabinet.plate);
     }
-    let n = (cabinet.table.n as usize).min(MOST_TASKS);
     let mut body = Vec::new();
+    if kind == 14 {
+        body.push(told);
+    }
     put_plate(&mut body, cabinet.plate);
-    put_two(&mut body, room(random, file::length(n, cabinet.own.len())));
+    put_two(&mut body, room_for_a_file(random, kind, told, &cabinet));
     put_table(&mut body, &cabinet.table);
     put_words(&mut body, &cabinet.own);
     put_words(&mut body, &cabinet.catalogue);
     body
+}
+
+/// Numbers that are told and are no edition's: some with the low bits of one.
+pub const NO_EDITIONS: [u8; 11] = [0, 3, 15, 16, 17, 18, 33, 34, 241, 242, 255];
+
+/// One of the two editions, mostly.
+fn told_edition(random: &mut Random) -> u8 {
+    let none = random.one_of(&NO_EDITIONS);
+    random.one_of(&[1, 1, 2, 2, none])
+}
+
+/// Room about as long as the file that is told, or, where an edition is told, as that of the other one
+/// now and then.
+fn room_for_a_file(random: &mut Random, kind: u8, told: u8, cabinet: &Cabinet) -> u32 {
+    let n = (cabinet.table.n as usize).min(MOST_TASKS);
+    let edition = Edition::from_number(told).unwrap_or(Edition::One);
+    let other = kind == 14 && random.once_in(6);
+    let edition = if other { other_of(edition) } else { edition };
+    room(random, file::length(edition, n, cabinet.own.len()))
 }
 
 /// How often a jitter of a late table is out of its range, for the analysis and the listing.

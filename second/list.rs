@@ -6,7 +6,8 @@ use crate::listing::Walk;
 use crate::table::*;
 use std::io::{self, Read, Write};
 
-/// Bytes past these are not read. The longest file ends well before, so they change nothing.
+/// Bytes past these are not read. The longest file, 485 bytes behind the plate, ends before, so they
+/// change nothing.
 const MOST_BYTES_READ: u64 = 512;
 const PLATE_BYTES: usize = 5;
 /// No more rows than these are printed (document 02, item 6).
@@ -26,7 +27,7 @@ pub fn run(input: impl Read, output: &mut impl Write) -> io::Result<()> {
     // Room for as many words as a file may hold, so that 12 cannot arise.
     let mut words = [0; MOST_REGION_WORDS];
     match file::read(plate, &[], file, &mut words) {
-        Ok(table) => print_rows(&table, MOST_ROWS, output),
+        Ok((_, table)) => print_rows(&table, MOST_ROWS, output),
         Err(refusal) => writeln!(output, "{refusal}"),
     }
 }

@@ -4,27 +4,31 @@
 //! # anything behind a hash is a comment
 //! cabinet 70001
 //! line 12
+//! edition 2
 //! task cost 2 period 5 deadline 6 priority 1 threshold 1 own 0 1 name 3
-//! task cost 4 period 10 deadline 10 priority 2 threshold 1 catalogue 0 2 name 64
+//! task cost 4 period 10 deadline 10 priority 2 threshold 1 catalogue 0 2 name 64 jitter 3
 //! regions 2
 //! catalogue 3 1
 //! damage 9 0
 //! ```
 //!
-//! `cabinet` and `line` stand once each. A `task` line is one record, its words always in this
-//! order; `own FIRST COUNT` or `catalogue FIRST COUNT` names its regions. `regions` are the
+//! `cabinet` and `line` stand once each, `edition` once or not at all: the file is of edition 1 where
+//! nothing is said. A `task` line is one record, its words always in this order; `own FIRST COUNT` or
+//! `catalogue FIRST COUNT` names its regions, and a task without a `jitter` has none. `regions` are the
 //! file's own region words and `catalogue` the lent catalogue's, which goes into no file; more
 //! such lines go on where the last one ended. `damage BYTE BIT` flips a bit of the sealed file:
 //! bytes are counted from 0, and bit 0 is the most significant one, the first in the file.
 //!
 //! The table goes through the writer, so a description that the writer turns away makes nothing.
 
-use crate::file;
+use crate::file::{self, Edition};
 use crate::table::*;
 use crate::Stop;
 
 struct Description {
     plate: Plate,
+    /// As the writer is told it, so anything but 1 and 2 makes nothing.
+    edition: u8,
     table: Table,
     own: Vec<u32>,
     catalogue: Vec<u32>,
@@ -71,6 +75,7 @@ fn understood(text: &str) -> Result<(Description, Vec<u8>), Stop> {
 fn written(this: &Description) -> Result<Vec<u8>, Stop> {
     let mut out = [0; 512];
     match file::write(
+        this.edition,
         this.plate,
         &this.table,
         &this.own,
@@ -83,7 +88,7 @@ fn written(this: &Description) -> Result<Vec<u8>, Stop> {
 }
 
 fn parsed(text: &str) -> Result<Description, Stop> {
-    let (mut cabinet, mut line) = (None, None);
+    let (mut cabinet, mut line, mut edition) = (None, None, None);
     let (mut own, mut catalogue) = (Vec::new(), Vec::new());
     let (mut tasks, mut damage) = (Vec::new(), Vec::new());
     for (place, written) in text.lines().enumerate() {
@@ -92,6 +97,7 @@ fn parsed(text: &str) -> Result<Description, Stop> {
             [] => Some(()),
             ["cabinet", number] => number_of(number).and_then(|number| once(&mut cabinet, number)),
             ["line", number] => number_of(number).and_then(|number| once(&mut line, number)),
+            ["edition", number] => number_of(number).and_then(|number| once(&mut edition, number)),
             ["task", rest @ ..] => task(rest).map(|task| tasks.push(task)),
             ["regions", rest @ ..] => numbers(rest).map(|more| own.extend(more)),
             ["catalogue", rest @ ..] => numbers(rest).map(|more| catalogue.extend(more)),
@@ -105,6 +111,7 @@ fn parsed(text: &str) -> Result<Description, Stop> {
     let plate = plate_of(cabinet, line)?;
     Ok(Description {
         plate,
+        edition: edition_of(edition)?,
         table: table_of(&tasks)?,
         own,
         catalogue,
@@ -142,9 +149,9 @@ fn place_of(byte: &str, bit: &str) -> Option<(usize, u32)> {
     Some((number_of(byte)? as usize, number_of(bit)?))
 }
 
-/// The words of a `task` line in their one order, and none behind them.
+/// The words of a `task` line in their one order, and none behind them. The jitter's may be missing.
 fn task(words: &[&str]) -> Option<Record> {
-    let mut words = words.iter().copied();
+    let mut words = words.iter().copied().peekable();
     let record = Record {
         cost: named(&mut words, "cost")?,
         period: named(&mut words, "period")?,
@@ -155,7 +162,10 @@ fn task(words: &[&str]) -> Option<Record> {
         first: number_of(words.next()?)?,
         count: number_of(words.next()?)?,
         name: named(&mut words, "name")?,
-        jitter: 0,
+        jitter: match words.peek() {
+            Some(_) => named(&mut words, "jitter")?,
+            None => 0,
+        },
     };
     words.next().is_none().then_some(record)
 }
@@ -183,6 +193,17 @@ fn plate_of(cabinet: Option<u32>, line: Option<u32>) -> Result<Plate, Stop> {
     match u16::try_from(line) {
         Ok(line) => Ok(Plate { cabinet, line }),
         Err(_) => wrong(format!("line {line} has more than 16 bits")),
+    }
+}
+
+/// Edition 1 where nothing is said.
+fn edition_of(edition: Option<u32>) -> Result<u8, Stop> {
+    let Some(edition) = edition else {
+        return Ok(Edition::One.number());
+    };
+    match u8::try_from(edition) {
+        Ok(edition) => Ok(edition),
+        Err(_) => wrong(format!("edition {edition} has more than 8 bits")),
     }
 }
 

@@ -1,25 +1,26 @@
 //! Parts handed back (document 01, the section of that name).
 
 use crate::checks::{self, *};
-use crate::file::{read_checked, HEAD_BYTES, RECORD_BYTES};
+use crate::file::{read_checked, HEAD_BYTES};
 use crate::table::*;
 
 const NAME_BYTES: usize = 16;
 /// Name numbers below this one stand in the cabinet's list, the others (less this) in the house's.
 const FIRST_HOUSE_NAME: u32 = 64;
 
-/// The twelve bytes of a record in the caller's own file. Reads the file first, so asks 1, 2, 18 and
-/// 3 to 11, then 13.
+/// The bytes of a record in the caller's own file, twelve in edition 1 and fifteen in edition 2.
+/// Reads the file first, so asks 1, 2, 18 and 3 to 11, then 13.
 pub fn record<'a>(
     plate: Plate,
     catalogue: &[u32],
     file: &'a [u8],
     number: u16,
 ) -> Result<&'a [u8], Refusal> {
-    let (table, _) = read_checked(plate, catalogue, file)?;
+    let (edition, table, _) = read_checked(plate, catalogue, file)?;
     refuse(13, no_such_record(&table, number))?;
-    let start = HEAD_BYTES + RECORD_BYTES * (number as usize - 1);
-    Ok(&file[start..start + RECORD_BYTES])
+    let bytes = edition.record_bytes();
+    let start = HEAD_BYTES + bytes * (number as usize - 1);
+    Ok(&file[start..start + bytes])
 }
 
 /// A task's regions, a part of the own words or of the catalogue. Asks 5, 13, then 11 for that

@@ -4,7 +4,7 @@
 //! order of the numbers show. What came too seldom is said by name. It knows no answer better
 //! than the two programs: it only reads requests and the answers they agreed on.
 
-use crate::cases::CALLS;
+use crate::cases::{place_of, CALLS};
 use crate::notes;
 use crate::Stop;
 use std::collections::HashMap;
@@ -103,12 +103,12 @@ pub fn run(
     for answer in answers.lines() {
         count += 1;
         let answer = answer?;
-        let (kind, body) = request(&mut requests)?;
-        let tally = &mut tallies[kind as usize - 1];
+        let (kind, place, body) = request(&mut requests)?;
+        let tally = &mut tallies[place];
         tally.requests += 1;
         tally.turned_away += answer.starts_with("refused") as u64;
         if notes::of_request(tally, kind, &body, &answer).is_none() {
-            let call = CALLS[kind as usize - 1].0;
+            let call = CALLS[place].1;
             return short(format!("request {count}: {call} can't answer `{answer}`"));
         }
     }
@@ -128,17 +128,17 @@ fn short(what: String) -> Result<(), Stop> {
     Err(Stop::Short(what))
 }
 
-/// The next request's kind, one of the calls', and its body.
-fn request(requests: &mut impl Read) -> Result<(u8, Vec<u8>), Stop> {
+/// The next request's kind, one of the calls', with the call's place, and its body.
+fn request(requests: &mut impl Read) -> Result<(u8, usize, Vec<u8>), Stop> {
     let mut head = [0; 3];
     requests.read_exact(&mut head)?;
     let [kind, high, low] = head;
-    if kind < 1 || kind as usize > CALLS.len() {
+    let Some(place) = place_of(kind) else {
         return Err(Stop::Short(format!("there is no kind {kind}")));
-    }
+    };
     let mut body = vec![0; u16::from_be_bytes([high, low]) as usize];
     requests.read_exact(&mut body)?;
-    Ok((kind, body))
+    Ok((kind, place, body))
 }
 
 /// A line for each call: how many requests, and which thing it reached least often.
@@ -148,7 +148,7 @@ fn print(tallies: &[Tally], output: &mut impl Write) -> Result<(), Stop> {
         "{:<14} {:>8} {:>11} {:>8} {:>6}  rarest",
         "call", "requests", "turned away", "answered", "things"
     )?;
-    for ((call, _), tally) in CALLS.iter().zip(tallies) {
+    for ((_, call, _), tally) in CALLS.iter().zip(tallies) {
         let things = tally.sorted();
         let rarest = things.iter().min_by_key(|(_, thing)| thing.came);
         let rarest = rarest.map_or(String::from("-"), |(what, thing)| {
@@ -173,7 +173,7 @@ fn print(tallies: &[Tally], output: &mut impl Write) -> Result<(), Stop> {
 /// A line for each thing that is wanted as a share of its call's requests.
 fn shares(tallies: &[Tally]) -> Vec<String> {
     let mut lines = Vec::new();
-    for ((call, _), tally) in CALLS.iter().zip(tallies) {
+    for ((_, call, _), tally) in CALLS.iter().zip(tallies) {
         for (what, thing) in tally.sorted() {
             if let Some((part, whole)) = thing.share {
                 let (came, requests) = (thing.came, tally.requests);
@@ -193,7 +193,7 @@ fn missing(tallies: &[Tally], count: u64) -> Vec<String> {
     if count < SOME {
         return lines;
     }
-    for ((call, _), tally) in CALLS.iter().zip(tallies) {
+    for ((_, call, _), tally) in CALLS.iter().zip(tallies) {
         if tally.requests == 0 {
             lines.push(format!("{call}: no request"));
         }

@@ -1,7 +1,7 @@
 //! What makes a drawn cabinet or its file wrong, or moves it to a limit of document 01.
 
 use crate::draw::{is_late, Cabinet};
-use crate::file;
+use crate::file::{self, Edition};
 use crate::random::Random;
 use crate::seal::seal;
 use crate::table::*;
@@ -304,7 +304,7 @@ pub fn any_file(random: &mut Random, cabinet: &mut Cabinet) -> Vec<u8> {
 
 /// Leaves the file as it is, or makes it wrong in one of many ways.
 fn spoil_file(random: &mut Random, cabinet: &Cabinet, file: &mut Vec<u8>) {
-    match random.from(0, 19) {
+    match random.from(0, 22) {
         0 => *file = random_bytes(random),
         1 => flip(random, file, 1),
         2 => {
@@ -316,7 +316,7 @@ fn spoil_file(random: &mut Random, cabinet: &Cabinet, file: &mut Vec<u8>) {
             seal_again(file);
         }
         4 => other_length(random, file),
-        5..=12 => {
+        5..=13 => {
             for _ in 0..random.one_of(&[1, 1, 2, 3]) {
                 damage(random, cabinet, file);
             }
@@ -324,14 +324,29 @@ fn spoil_file(random: &mut Random, cabinet: &Cabinet, file: &mut Vec<u8>) {
                 seal_again(file);
             }
         }
+        14 => {
+            other_edition(random, cabinet, file);
+            if !random.once_in(3) {
+                seal_again(file);
+            }
+        }
+        15 => {
+            if random.once_in(2) {
+                damage(random, cabinet, file);
+            }
+            put_if_held(file, 0, 4, wrong_edition(random));
+            seal_again(file);
+        }
         _ => {}
     }
 }
 
-/// The cabinet's file.
+/// The cabinet's file, in its edition.
 pub fn whole_file(cabinet: &Cabinet) -> Vec<u8> {
-    let mut file = vec![0; file::length(MOST_TASKS, MOST_REGION_WORDS)];
+    let edition = cabinet.edition;
+    let mut file = vec![0; file::length(edition, MOST_TASKS, MOST_REGION_WORDS)];
     let length = file::write(
+        edition.number(),
         cabinet.plate,
         &cabinet.table,
         &cabinet.own,
@@ -350,11 +365,40 @@ fn random_bytes(random: &mut Random) -> Vec<u8> {
         .collect()
 }
 
+/// Shorter or longer, by a byte mostly, or about as short as a file may be in either edition.
 fn other_length(random: &mut Random, file: &mut Vec<u8>) {
-    match random.from(0, 2) {
+    match random.from(0, 4) {
         0 => file.truncate(random.place(file.len() + 1)),
-        1 => file.truncate(random.from(8, 22) as usize),
-        _ => file.extend(vec![0; random.from(1, 5) as usize]),
+        1 => file.truncate(random.from(8, 24) as usize),
+        2 => file.truncate(random.from(22, 24) as usize),
+        3 => file.truncate(file.len().saturating_sub(1)),
+        _ => file.extend(vec![0; random.one_of(&[1, 1, 2, 3, 5])]),
+    }
+}
+
+/// The one of the two that this isn't.
+pub fn other_of(edition: Edition) -> Edition {
+    match edition {
+        Edition::One => Edition::Two,
+        Edition::Two => Edition::One,
+    }
+}
+
+/// A number that the head has room for and that is no edition's.
+fn wrong_edition(random: &mut Random) -> u32 {
+    let any = random.from(3, 15);
+    random.one_of(&[0, 3, any, any, any, any, any])
+}
+
+/// The number of the other edition over records that stay, or records that stay in a file of its
+/// length: sealed again, only the length is wrong.
+fn other_edition(random: &mut Random, cabinet: &Cabinet, file: &mut Vec<u8>) {
+    let other = other_of(cabinet.edition);
+    if random.once_in(2) {
+        put_if_held(file, 0, 4, other.number() as u32);
+    } else {
+        let (n, m) = (cabinet.table.n as usize, cabinet.own.len());
+        file.resize(file::length(other, n, m), 0);
     }
 }
 
@@ -378,7 +422,7 @@ pub fn seal_again(file: &mut [u8]) {
 /// A plate of another line or cabinet, or of more than 24 bits, of which the low 24 may be 0;
 /// seldom.
 fn other_plate(random: &mut Random, plate: &mut Plate) {
-    if random.once_in(16) {
+    if random.once_in(12) {
         plate.line ^= 1 << random.from(1, 15);
     }
     if random.once_in(16) {
@@ -401,9 +445,9 @@ pub const CABINET_AT: usize = 8;
 pub const LINE_AT: usize = 32;
 pub const N_AT: usize = 48;
 
-/// The bit at which a field of record k + 1 starts.
-pub const fn in_record(k: usize, field: usize) -> usize {
-    64 + 96 * k + field
+/// The bit at which a field of record k + 1 starts in a file of this edition.
+pub const fn in_record_of(edition: Edition, k: usize, field: usize) -> usize {
+    8 * (file::HEAD_BYTES + edition.record_bytes() * k) + field
 }
 
 /// Puts a value into the field of this many bits that starts at this bit of the file.
@@ -425,42 +469,71 @@ fn put_if_held(file: &mut [u8], at: usize, width: usize, value: u32) {
 /// One thing wrong in the cabinet's file, in a field that is chosen. The file may be damaged, and
 /// shorter, already: a field that it no longer holds stays as it is.
 fn damage(random: &mut Random, cabinet: &Cabinet, file: &mut Vec<u8>) {
+    let edition = cabinet.edition;
     let n = cabinet.table.n as usize;
     let m = cabinet.own.len();
     let k = random.place(n);
-    let words = in_record(n, 0);
-    let (at, width, value) = match random.from(0, 19) {
-        0 => (0, 4, random.one_of(&[0, 2, 3, 15])),
-        1 | 19 => return wrong_head_count(random, file),
+    let field = |at| in_record_of(edition, k, at);
+    let words = in_record_of(edition, n, 0);
+    let (at, width, value) = match random.from(0, 24) {
+        0 => (0, 4, wrong_edition(random)),
+        1 | 19 | 23 => return wrong_head_count(random, edition, file),
         2 => return other_length(random, file),
         3 => (4, 4, 1 << random.from(0, 3)),
-        4 => (in_record(k, 90), 6, 1 << random.from(0, 5)),
+        4 => spare_bit(random, edition, k),
         5 if m % 2 == 1 => (words + 20 * m, 4, 1 << random.from(0, 3)),
-        5 => (in_record(n - 1, 90), 6, 1),
-        6 | 7 => (in_record(k, 0), 20, wrong_ticks(random)),
-        8 | 9 => (in_record(k, 20), 20, wrong_ticks(random)),
-        10 | 11 => (in_record(k, 40), 20, wrong_ticks(random)),
-        12 => (in_record(k, 60), 4, random.from(0, 15)),
-        13 => (in_record(k, 64), 4, random.from(0, 15)),
-        14 => (in_record(k, 68), 1, random.from(0, 1)),
-        15 => (in_record(k, 69), 7, random.one_of(&[1, 126, 127])),
-        16 => (in_record(k, 76), 7, random.one_of(&[0, 1, 126, 127])),
+        5 => spare_bit(random, edition, n - 1),
+        6 | 7 => (field(0), 20, wrong_ticks(random)),
+        8 | 9 => (field(20), 20, wrong_ticks(random)),
+        10 | 11 => (field(40), 20, wrong_ticks(random)),
+        12 | 24 => (field(60), 4, random.from(0, 15)),
+        13 => (field(64), 4, random.from(0, 15)),
+        14 => (field(68), 1, random.from(0, 1)),
+        15 => (field(69), 7, random.one_of(&[1, 126, 127])),
+        16 => (field(76), 7, random.one_of(&[0, 1, 126, 127])),
+        20 => return other_edition(random, cabinet, file),
+        21 | 22 if edition == Edition::Two => {
+            let period = cabinet.table.records[k].period;
+            (field(file::USED_BITS), 20, jitter_in_a_file(random, period))
+        }
         _ if m > 0 => (words + 20 * random.place(m), 20, wrong_ticks(random)),
-        _ => (in_record(k, 76), 7, 0),
+        _ => (field(76), 7, 0),
     };
     put_if_held(file, at, width, value);
+}
+
+/// The bit at which the spare bits of record k + 1 start.
+pub fn spare_at(edition: Edition, k: usize) -> usize {
+    in_record_of(edition, k + 1, 0) - edition.spare_bits()
+}
+
+/// One of the spare bits of record k + 1: where it stands, how wide it is and what it becomes.
+fn spare_bit(random: &mut Random, edition: Edition, k: usize) -> (usize, usize, u32) {
+    let place = random.place(edition.spare_bits());
+    (spare_at(edition, k) + place, 1, 1)
+}
+
+/// The most that twenty bits hold.
+pub const MOST_IN_A_FIELD: u32 = (1 << 20) - 1;
+
+/// A jitter as a file's 20 bits can say it, at its limits for this period and past them.
+fn jitter_in_a_file(random: &mut Random, period: u32) -> u32 {
+    let more = random.from(period, MOST_IN_A_FIELD);
+    let inside = random.one_of(&[0, 1, period - 1]);
+    let past = random.one_of(&[period, period, period + 1, period + 1]);
+    random.one_of(&[inside, past, past, more, MOST_IN_A_FIELD])
 }
 
 /// Ticks that are out of range, as a file's 20 bits can say them, or seldom at a limit.
 fn wrong_ticks(random: &mut Random) -> u32 {
     let edge = random.one_of(&[1, MOST_TICKS]);
     let past = MOST_TICKS + 1;
-    random.one_of(&[0, 0, past, past, (1 << 20) - 1, edge])
+    random.one_of(&[0, 0, past, past, MOST_IN_A_FIELD, edge])
 }
 
-/// An n or m outside its range, half the time with the length that these numbers give, unless a
-/// request could not hold it.
-fn wrong_head_count(random: &mut Random, file: &mut Vec<u8>) {
+/// An n or m outside its range, two times in three with the length that these numbers give, in this
+/// edition or in the other, unless a request could not hold it.
+fn wrong_head_count(random: &mut Random, edition: Edition, file: &mut Vec<u8>) {
     if file.len() < file::HEAD_BYTES {
         return;
     }
@@ -469,8 +542,9 @@ fn wrong_head_count(random: &mut Random, file: &mut Vec<u8>) {
     } else {
         file[7] = random.one_of(&[101, 101, 102, 255]);
     }
-    let length = file::length(file[6] as usize, file[7] as usize);
-    if length < 1000 && random.once_in(2) {
+    let edition = random.one_of(&[edition, other_of(edition)]);
+    let length = file::length(edition, file[6] as usize, file[7] as usize);
+    if length < 1000 && !random.once_in(3) {
         file.resize(length, 0);
     }
 }
@@ -571,7 +645,7 @@ pub const ANOTHER_LINE: Fault = (4, "another line", |file| put(file, LINE_AT, 16
 pub const BESIDE_ZEROS: [Fault; 7] = [
     (1, "seven bytes", |file| file.truncate(7)),
     (1, "21 bytes", |file| file.truncate(21)),
-    (2, "edition 2", |file| put(file, 0, 4, 2)),
+    (2, "edition 3", |file| put(file, 0, 4, 3)),
     ANOTHER_CABINET,
     ANOTHER_LINE,
     (5, "n is 16", |file| put(file, N_AT, 8, 16)),
@@ -610,8 +684,8 @@ fn some_zeros(random: &mut Random, cabinet: &mut Cabinet, file: &mut Vec<u8>) {
     match random.from(0, 17) {
         0 => file.truncate(random.place(file::HEAD_BYTES)),
         1 => file.truncate(random.from(8, 21) as usize),
-        2 | 3 => put(file, 0, 4, random.one_of(&[0, 2, 3, 15])),
-        4 | 5 => wrong_head_count(random, file),
+        2 | 3 => put(file, 0, 4, wrong_edition(random)),
+        4 | 5 => wrong_head_count(random, cabinet.edition, file),
         6 => damage(random, cabinet, file),
         7 | 8 => seal_wrong = true,
         _ => {}

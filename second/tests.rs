@@ -6,6 +6,7 @@ mod blank;
 mod blocked;
 mod brute;
 mod cases;
+mod editions;
 mod files;
 mod jitter;
 mod list;
@@ -17,6 +18,7 @@ mod worst;
 
 use crate::analysis::{response_times, Response};
 use crate::checks::Refusal;
+use crate::file::Edition;
 use crate::table::*;
 
 pub const PLATE: Plate = Plate {
@@ -80,16 +82,22 @@ pub fn whole_regions(table: &mut Table) -> Vec<u32> {
 }
 
 /// Two jobs, each with one region of its own.
-fn two_jobs() -> (Table, Vec<u32>) {
+pub fn two_jobs() -> (Table, Vec<u32>) {
     let mut table = assigned(&[(2, 5, 5), (4, 10, 10)], &[1, 2], &[1, 2]);
     let own = whole_regions(&mut table);
     (table, own)
 }
 
-/// The file of a table that the writer takes.
+/// The file of edition 1 of a table that the writer takes.
 pub fn file_of(table: &Table, own: &[u32], catalogue: &[u32]) -> Vec<u8> {
-    let mut out = [0; 512];
-    let length = crate::file::write(PLATE, table, own, catalogue, &mut out).expect("refused");
+    file_in(Edition::One, table, own, catalogue)
+}
+
+/// The same in this edition.
+pub fn file_in(edition: Edition, table: &Table, own: &[u32], catalogue: &[u32]) -> Vec<u8> {
+    let (mut out, edition) = ([0; 512], edition.number());
+    let length =
+        crate::file::write(edition, PLATE, table, own, catalogue, &mut out).expect("refused");
     out[..length].to_vec()
 }
 

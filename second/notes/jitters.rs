@@ -3,8 +3,8 @@
 use super::*;
 
 /// How many of a call's tables are to have a jitter, at the least, and how many none: a half each,
-/// but for what comes of chance and of periods of 1. Of the tables that are written fewer have one,
-/// as no file comes of these.
+/// but for what comes of chance and of periods of 1. Of the tables that are written as edition 1 fewer
+/// have one, as no file comes of these.
 fn shares(kind: u8) -> ((u64, u64), (u64, u64)) {
     if kind == 2 {
         ((1, 5), (3, 5))
@@ -30,11 +30,12 @@ pub fn note_jitters(tally: &mut Tally, kind: u8, table: &Table, answer: &Answer)
 fn note_taken(tally: &mut Tally, kind: u8, table: &Table, answer: &Answer) {
     let came = match kind {
         2 => answer.refused(19),
+        14 => answer.taken() || answer.refused(19),
         4..=6 => answer.taken() || answer.refused(16),
         _ => answer.taken(),
     };
     // A deadline is nothing to writing and to regions.
-    let by_deadline = if [2, 10].contains(&kind) {
+    let by_deadline = if [2, 10, 14].contains(&kind) {
         SELDOM
     } else {
         LEAST

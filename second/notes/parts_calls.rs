@@ -133,8 +133,5 @@ pub fn of_name(tally: &mut Tally, mut body: Body, answer: &Answer) -> Option<()>
 
 /// The bytes of a name that was handed back.
 fn bytes_of(answer: &Answer) -> Vec<u8> {
-    let hexadecimal = answer.line.strip_prefix("name ").unwrap_or("");
-    (0..hexadecimal.len() / 2)
-        .filter_map(|k| u8::from_str_radix(&hexadecimal[2 * k..2 * k + 2], 16).ok())
-        .collect()
+    bytes_of_text(answer.line.strip_prefix("name ").unwrap_or(""))
 }

@@ -32,7 +32,7 @@ pub fn note_table(tally: &mut Tally, kind: u8, table: &Table, answer: &Answer) {
     note_numbers(tally, &seen, answer);
     note_jitters(tally, kind, table, answer);
     // Writing asks 9 of a cabinet too, and sees to that by itself.
-    if kind != 2 {
+    if ![2, 14].contains(&kind) {
         note_bad_jitters(tally, table, answer.refused(9));
     }
     let name = |number| seen.tasks().iter().any(|task| task.name == number);

@@ -81,7 +81,7 @@ fn two_jobs() -> (Table, Vec<u32>) {
     (table, own)
 }
 
-const TABLE_LINE: &str = "table 2 2 5 5 1 1 0 0 1 0 0 4 10 10 2 2 0 1 1 64 0";
+const TABLE_LINE: &str = "table 2 2 5 5 1 1 0 0 1 0 0 4 10 10 2 2 0 1 1 64 0 edition 1";
 const RECORD_2: &str = "record 000040000a0000a220103000";
 
 #[test]
@@ -117,6 +117,108 @@ fn kind_2_write() {
     assert_eq!(write(41), format!("file 39 out {file}a5a5"));
     assert_eq!(write(2), "refused 12 out a5a5");
     assert_eq!(write(0), "refused 12 out");
+}
+
+/// The two jobs with jitters of 3 and 1.
+fn two_jobs_late() -> (Table, Vec<u32>) {
+    let (mut table, own) = two_jobs();
+    (table.records[0].jitter, table.records[1].jitter) = (3, 1);
+    (table, own)
+}
+
+/// Their file of edition 2, worked out by hand: head, records, words, seal. Behind the 90 bits of
+/// edition 1 stand the jitter, whose last six bits begin a record's last byte but one, and ten spare
+/// bits. The seal comes from another CRC program.
+const LATE_FILE: [&str; 5] = [
+    "20011171000c0202",
+    "000020000500005110002000000c00",
+    "000040000a0000a220103000000400",
+    "0000200004",
+    "499f",
+];
+
+/// Kind 14: the edition's one byte, then all that kind 2 has.
+fn edition_body(edition: u8, room: u16, table: &Table, own: &[u32]) -> Body {
+    let body = Body(vec![edition]).plate().two(room);
+    body.table(table).words(own).words(&[])
+}
+
+#[test]
+fn kind_14_write_an_edition() {
+    let (table, own) = two_jobs_late();
+    let file = LATE_FILE.concat();
+    let write = |edition, room| answer(14, edition_body(edition, room, &table, &own));
+    assert_eq!(write(2, 45), format!("file 45 out {file}"));
+    assert_eq!(write(2, 46), format!("file 45 out {file}a5"));
+    assert_eq!(write(2, 2), "refused 12 out a5a5");
+    assert_eq!(write(2, 0), "refused 12 out");
+    assert_eq!(write(1, 2), "refused 19 out a5a5");
+    for edition in [0, 3, 18, 255] {
+        assert_eq!(write(edition, 2), "refused 2 out a5a5");
+        assert_eq!(write(edition, 0), "refused 2 out");
+    }
+}
+
+/// Of edition 1 it answers what kind 2 does.
+#[test]
+fn kind_2_writes_edition_1() {
+    let late = two_jobs_late();
+    for (table, own) in [two_jobs(), late] {
+        for room in [0, 38, 39, 41] {
+            let body = edition_body(1, room, &table, &own);
+            let of_kind_2 = Body(body.0[1..].to_vec());
+            assert_eq!(answer(14, body), answer(2, of_kind_2));
+        }
+    }
+}
+
+#[test]
+fn kind_14_with_another_body() {
+    let (table, own) = two_jobs();
+    let body = edition_body(1, 39, &table, &own);
+    for length in 0..body.0.len() {
+        let cut = Body(body.0[..length].to_vec());
+        assert_eq!(answer(14, cut), "bad request", "{length}");
+    }
+    // Bytes left over are seen before the edition is asked.
+    assert_eq!(
+        answer(14, edition_body(3, 39, &table, &own).two(0)),
+        "bad request"
+    );
+    // A byte too many or too few makes neither of the two the other.
+    assert_eq!(answer(2, body.clone()), "bad request");
+    assert_eq!(answer(14, Body(body.0[1..].to_vec())), "bad request");
+}
+
+/// Bytes out of a run of hexadecimal digits.
+fn bytes_of(digits: &str) -> Vec<u8> {
+    let byte = |place| u8::from_str_radix(&digits[place..place + 2], 16).expect("two digits");
+    (0..digits.len()).step_by(2).map(byte).collect()
+}
+
+#[test]
+fn kinds_1_and_9_of_edition_2() {
+    let file = bytes_of(&LATE_FILE.concat());
+    let line = "table 2 2 5 5 1 1 0 0 1 0 3 4 10 10 2 2 0 1 1 64 1 edition 2";
+    let read = |room| answer(1, start().plate().two(room).words(&[]).bytes(&file));
+    assert_eq!(read(3), format!("{line} out 2 4 2779096485"));
+    assert_eq!(read(2), format!("{line} out 2 4"));
+    assert_eq!(read(1), "refused 12 out 2779096485");
+    let record = |number| answer(9, start().plate().two(number).words(&[]).bytes(&file));
+    assert_eq!(record(1), format!("record {}", LATE_FILE[1]));
+    assert_eq!(record(2), format!("record {}", LATE_FILE[2]));
+    assert_eq!(record(0), "refused 13");
+    assert_eq!(record(3), "refused 13");
+    // A file of no word at all: what was lent stays, and the edition stands before it.
+    let mut one = unassigned(&[(2, 5, 5)]);
+    (one.records[0].source, one.records[0].count) = (Source::Catalogue, 1);
+    for (edition, number) in [(Edition::One, 1), (Edition::Two, 2)] {
+        let file = file_in(edition, &one, &[], &[2]);
+        let read = |room| answer(1, start().plate().two(room).words(&[2]).bytes(&file));
+        let line = format!("table 1 2 5 5 0 0 1 0 1 0 0 edition {number} out");
+        assert_eq!(read(0), line);
+        assert_eq!(read(1), format!("{line} 2779096485"));
+    }
 }
 
 #[test]
@@ -266,7 +368,8 @@ fn bad_requests() {
     }
     assert_eq!(answer(3, start().table(&table).two(0)), "bad request");
     assert_eq!(answer(3, start()), "bad request");
-    for kind in [0, NO_KIND] {
+    // Of those between the known kinds none has landed.
+    for kind in [0, 12, 13, 15, 16, 17, 18, 19, 20, NO_KIND] {
         assert_eq!(answer(kind, start()), "bad request");
         assert_eq!(answer(kind, start().table(&table)), "bad request");
     }

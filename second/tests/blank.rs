@@ -66,7 +66,7 @@ const READING: [(Named, Named, Change, u8); 34] = [
     (BLANK, OURS, |file| file.truncate(21), 1),
     (OURS, BLANK, |file| file.truncate(21), 1),
     (BLANK, BLANK, |file| file.truncate(22), 18),
-    (BLANK, BLANK, |file| file[0] = 0x20, 2),
+    (BLANK, BLANK, |file| file[0] = 0x30, 2),
     (BLANK, OURS, |file| file[0] = 0x00, 2),
     (OURS, BLANK, |file| file[0] = 0xF0, 2),
     // 3, 4, 5, 7 and 8 are asked behind it.
@@ -83,7 +83,7 @@ const READING: [(Named, Named, Change, u8); 34] = [
     ((WIDE, 12), OURS, |_| {}, 3),
     ((WIDE, 12), (0, 12), |_| {}, 18),
     ((WIDE, 0), OURS, |_| {}, 18),
-    ((WIDE, 12), OURS, |file| file[0] = 0x20, 2),
+    ((WIDE, 12), OURS, |file| file[0] = 0x30, 2),
 ];
 
 #[test]
@@ -156,12 +156,12 @@ fn writing() {
         let (mut table, own) = two_jobs();
         change(&mut table);
         let mut out = vec![7; room];
-        let answer = write(plate(on_plate), &table, &own, &[], &mut out);
+        let answer = write(1, plate(on_plate), &table, &own, &[], &mut out);
         assert_eq!(number(answer), expected, "{place}");
         assert_eq!(out == vec![7; room], expected != 0, "{place}");
     }
     let (table, _) = two_jobs();
-    let too_many = write(plate(BLANK), &table, &[2; 101], &[], &mut []);
+    let too_many = write(1, plate(BLANK), &table, &[2; 101], &[], &mut []);
     assert_eq!(number(too_many), 5);
 }
 
@@ -173,12 +173,15 @@ fn plates_that_go_round() {
         for line in [0, 1, 0x100, 12, 0xFFFF] {
             let plate = plate((cabinet, line));
             let mut file = [0; 39];
-            let written = write(plate, &table, &own, &[], &mut file);
+            let written = write(1, plate, &table, &own, &[], &mut file);
             let blank = cabinet == 0 || line == 0;
             assert_eq!(number(written), if blank { 18 } else { 0 });
             if !blank {
                 let mut words = [0; 2];
-                assert_eq!(read(plate, &[], &file, &mut words), Ok(table));
+                assert_eq!(
+                    read(plate, &[], &file, &mut words),
+                    Ok((Edition::One, table))
+                );
                 assert_eq!(words[..], own);
             }
         }
@@ -193,26 +196,39 @@ pub struct Request {
     others: Vec<u8>,
 }
 
+fn is_writing(kind: u8) -> bool {
+    kind == 2 || kind == 14
+}
+
 impl Request {
     /// Nothing where a kind names none.
     fn of(kind: u8, body: &[u8]) -> Option<Request> {
-        if ![1, 2, 9].contains(&kind) {
+        if ![1, 2, 9, 14].contains(&kind) {
             return None;
         }
+        // What the writer is told stands before all that kind 2 has too.
+        let told = if kind == 14 { 1 } else { 0 };
+        let no_edition = |number: u8| number != 1 && number != 2;
+        let mut others = Vec::new();
+        if kind == 14 && no_edition(body[0]) {
+            others.push(2);
+        }
+        let body = &body[told..];
         let zero = |bytes: &[u8]| bytes.iter().all(|byte| *byte == 0);
         let (cabinet, line) = (&body[..4], &body[4..6]);
         let mut zeros = [false, false, zero(cabinet), zero(line)];
         let mut body = Body(&body[8..]);
         let counts_wrong = |n: u8, m: usize| n < 1 || n > 15 || m > 100;
-        if kind == 2 {
+        if is_writing(kind) {
             let n = body.table()?.n;
             let m = body.words()?.len();
-            let others = if counts_wrong(n, m) { vec![5] } else { vec![] };
+            if counts_wrong(n, m) {
+                others.push(5);
+            }
             return Some(Request { zeros, others });
         }
         body.words()?;
         let file = body.bytes()?;
-        let mut others = Vec::new();
         if file.len() < 22 {
             others.push(1);
         }
@@ -220,7 +236,7 @@ impl Request {
             (zeros[0], zeros[1]) = (zero(&file[1..4]), zero(&file[4..6]));
             let (head, seal) = file.split_at(file.len() - 2);
             let found = [
-                (2, file[0] >> 4 != 1),
+                (2, no_edition(file[0] >> 4)),
                 (3, cabinet[0] != 0 || cabinet[1..] != file[1..4]),
                 (4, line != &file[4..6]),
                 (5, counts_wrong(file[6], file[7] as usize)),
@@ -232,9 +248,9 @@ impl Request {
         Some(Request { zeros, others })
     }
 
-    /// Whether 1 or 2, in writing 5, turns it away: these are asked before 18.
+    /// Whether 1 or 2, in writing 2 or 5, turns it away: these are asked before 18.
     fn before(&self, kind: u8) -> bool {
-        let before: &[u8] = if kind == 2 { &[5] } else { &[1, 2] };
+        let before = if is_writing(kind) { [2, 5] } else { [1, 2] };
         self.others.iter().any(|number| before.contains(number))
     }
 
@@ -268,7 +284,7 @@ fn all_zeros() -> BTreeSet<(u8, [bool; 4])> {
             all.extend([(1, zeros), (9, zeros)]);
         }
         if bits < 4 {
-            all.insert((2, zeros));
+            all.extend([(2, zeros), (14, zeros)]);
         }
     }
     all
@@ -287,7 +303,7 @@ fn stored_requests() {
 fn stored_pairs() {
     let mut came = BTreeSet::new();
     for (kind, body, _) in super::cases::requests(&cases::stream()) {
-        let request = Request::of(kind, &body).filter(|_| kind != 2);
+        let request = Request::of(kind, &body).filter(|_| !is_writing(kind));
         let Some(Request { zeros, others }) = request else {
             continue;
         };

@@ -1,10 +1,11 @@
-//! The stored stream of requests: what document 02, item 6, asks of it.
+//! The stored stream of requests: what document 02, items 6 and 9, ask of it.
 
 use super::blank::Request;
 use crate::ask::Body;
 use crate::cases;
-use crate::file::{length, read_checked};
-use crate::spoil::{in_record, put, seal_again, N_AT};
+use crate::file::{length, read_checked, Edition};
+use crate::spoil::{in_record_of, put, seal_again, N_AT};
+use std::collections::BTreeSet;
 
 /// The requests of a stream, kind and body, each with the line that answers it.
 pub fn requests(stream: &[u8]) -> Vec<(u8, Vec<u8>, String)> {
@@ -43,7 +44,10 @@ fn n_of(kind: u8, body: &[u8]) -> Option<u8> {
             body.words()?;
             body.bytes()?.get(6).copied()
         }
-        2 => {
+        2 | 14 => {
+            if kind == 14 {
+                body.one()?;
+            }
             body.plate()?;
             body.two()?;
             Some(body.table()?.n)
@@ -58,7 +62,7 @@ fn n_of(kind: u8, body: &[u8]) -> Option<u8> {
 }
 
 /// Kinds that ask 5, and how an answer of theirs for fifteen tasks begins.
-const ASK_5: [(u8, &str); 10] = [
+const ASK_5: [(u8, &str); 11] = [
     (1, "table 15 "),
     (2, "file 440 "),
     (3, "times "),
@@ -69,6 +73,7 @@ const ASK_5: [(u8, &str); 10] = [
     (8, "row out "),
     (9, "record "),
     (10, "regions "),
+    (14, "file 485 "),
 ];
 
 #[test]
@@ -76,8 +81,12 @@ fn fifteen_tasks_are_answered_and_none_and_sixteen_are_not() {
     let requests = stored();
     for (kind, begin) in ASK_5 {
         let of = |n| {
-            // Reading asks 18 before 5.
-            let asked = move |body: &[u8]| kind == 2 || !Request::is_blank(kind, body);
+            // Reading asks 18 before 5, and a writer that is told of no edition asks nothing more.
+            let asked = move |body: &[u8]| match kind {
+                2 => true,
+                14 => body[0] == 1 || body[0] == 2,
+                _ => !Request::is_blank(kind, body),
+            };
             let named = requests.iter().filter(move |(k, body, _)| {
                 *k == kind && n_of(kind, body) == Some(n) && asked(body)
             });
@@ -100,18 +109,21 @@ fn fifteen_tasks_are_answered_and_none_and_sixteen_are_not() {
 /// with those that are missing, they read.
 #[test]
 fn the_number_of_records_alone_is_wrong() {
-    let record = |k: usize| in_record(k, 0) / 8;
-    let mut sixteen = cases::sixteen_jobs_file();
-    let mut none = cases::no_jobs_file();
-    assert_eq!([sixteen[6], none[6]], [16, 0]);
-    let records: Vec<u8> = sixteen.drain(record(0)..record(16)).collect();
-    assert_eq!(sixteen[8..sixteen.len() - 2], none[8..none.len() - 2]);
-    for file in [&mut sixteen, &mut none] {
-        assert_eq!(file.len(), length(0, file[7] as usize));
-        file.splice(8..8, records[..record(15) - 8].iter().copied());
-        put(file, N_AT, 8, 15);
-        seal_again(file);
-        assert_eq!(read_checked(cases::PLATE, &[], file).map(|_| ()), Ok(()));
+    for edition in Edition::BOTH {
+        let record = |k: usize| in_record_of(edition, k, 0) / 8;
+        let mut sixteen = cases::sixteen_jobs_file(edition);
+        let mut none = cases::no_jobs_file(edition);
+        assert_eq!([sixteen[6], none[6]], [16, 0]);
+        let records: Vec<u8> = sixteen.drain(record(0)..record(16)).collect();
+        assert_eq!(sixteen[8..sixteen.len() - 2], none[8..none.len() - 2]);
+        for file in [&mut sixteen, &mut none] {
+            assert_eq!(file.len(), length(edition, 0, file[7] as usize));
+            file.splice(8..8, records[..record(15) - 8].iter().copied());
+            put(file, N_AT, 8, 15);
+            seal_again(file);
+            let read = read_checked(cases::PLATE, &[], file);
+            assert_eq!(read.map(|(read, _, _)| read), Ok(edition));
+        }
     }
 }
 
@@ -119,7 +131,7 @@ fn the_number_of_records_alone_is_wrong() {
 #[test]
 fn n_alone_is_wrong() {
     let requests = stored();
-    for kind in [2, 3, 4, 5, 6, 7, 8, 10] {
+    for kind in [2, 3, 4, 5, 6, 7, 8, 10, 14] {
         for n in [0, 16] {
             let mended = requests.iter().any(|(k, body, _)| {
                 if *k != kind || n_of(kind, body) != Some(n) {
@@ -128,6 +140,7 @@ fn n_alone_is_wrong() {
                 let mut body = body.clone();
                 let place = match kind {
                     2 => 8,
+                    14 => 9,
                     7 | 8 | 10 => 2,
                     _ => 0,
                 };
@@ -141,5 +154,52 @@ fn n_alone_is_wrong() {
             });
             assert!(mended, "kind {kind}, n {n}");
         }
+    }
+}
+
+/// What the stored stream asks of the editions: files of both are read and written, each number that
+/// is no edition is told, and each refusal of the writer comes of either edition that gives it.
+#[test]
+fn both_editions_are_stored() {
+    let requests = stored();
+    let told = requests.iter().filter(|(kind, _, _)| *kind == 14);
+    let mut came = BTreeSet::new();
+    for (_, body, line) in told {
+        let number = line
+            .strip_prefix("refused ")
+            .map_or("0", |rest| rest.split(' ').next().expect("a number"));
+        came.insert((body[0], number.parse::<u8>().expect("a number")));
+    }
+    for edition in (0..=255).filter(|told| ![1, 2].contains(told)) {
+        assert!(came.contains(&(edition, 2)), "{edition}");
+    }
+    let in_edition = |edition| {
+        let numbers = came.iter().filter(move |(told, _)| *told == edition);
+        numbers.map(|(_, number)| *number).collect::<Vec<u8>>()
+    };
+    assert_eq!(in_edition(1), [0, 5, 9, 10, 11, 12, 18, 19]);
+    assert_eq!(in_edition(2), [0, 5, 9, 10, 11, 12, 18]);
+    for (begin, wanted) in [
+        ("file 22 ", 1),
+        ("file 25 ", 2),
+        ("file 440 ", 1),
+        ("file 485 ", 2),
+    ] {
+        let written = |(kind, body, line): &(u8, Vec<u8>, String)| {
+            *kind == 14 && body[0] == wanted && line.starts_with(begin)
+        };
+        assert!(requests.iter().any(written), "{begin}");
+    }
+    for edition in [" edition 1 out", " edition 2 out"] {
+        let read = |(kind, _, line): &(u8, Vec<u8>, String)| *kind == 1 && line.contains(edition);
+        assert!(requests.iter().any(read), "{edition}");
+    }
+    // A record of twelve bytes and one of fifteen.
+    for digits in [24, 30] {
+        let record = |(kind, _, line): &(u8, Vec<u8>, String)| {
+            let part = line.strip_prefix("record ");
+            *kind == 9 && part.is_some_and(|part| part.len() == digits)
+        };
+        assert!(requests.iter().any(record), "{digits}");
     }
 }

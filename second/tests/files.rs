@@ -27,8 +27,8 @@ fn fifteen_tasks() -> Table {
 
 #[test]
 fn shortest_and_longest() {
-    assert_eq!(length(1, 0), 22);
-    assert_eq!(length(15, 100), 440);
+    assert_eq!(length(Edition::One, 1, 0), 22);
+    assert_eq!(length(Edition::One, 15, 100), 440);
 }
 
 /// Worked out by hand: edition 1, spare 0, cabinet 0x011171, line 12, n 2, m 2; then
@@ -55,7 +55,7 @@ fn reading_writes_the_words_and_no_more() {
     let mut out = [7; 4];
     assert_eq!(
         read(PLATE, &[], &file_of(&table, &own, &[]), &mut out),
-        Ok(table)
+        Ok((Edition::One, table))
     );
     assert_eq!(out, [2, 4, 7, 7]);
 }
@@ -64,12 +64,12 @@ fn reading_writes_the_words_and_no_more() {
 fn fifteen_tasks_are_read_and_sixteen_are_not() {
     let table = fifteen_tasks();
     let file = file_of(&table, &[1], &[]);
-    assert_eq!(read(PLATE, &[], &file, &mut [0]), Ok(table));
+    assert_eq!(read(PLATE, &[], &file, &mut [0]), Ok((Edition::One, table)));
     let mut sixteen = file[..file.len() - 5].to_vec();
     sixteen[6] = 16;
     sixteen.extend_from_within(8..20);
     sixteen.extend([0, 0, 0x10, 0, 0]);
-    assert_eq!(sixteen.len(), length(16, 1));
+    assert_eq!(sixteen.len(), length(Edition::One, 16, 1));
     assert_eq!(read(PLATE, &[], &resealed(sixteen), &mut [0]), refused(5));
 }
 
@@ -105,7 +105,7 @@ fn any_single_flipped_bit_is_refused() {
 }
 
 /// A table as the writer takes it, its own region words and a catalogue.
-fn random_cabinet(dice: &mut Dice) -> (Table, Vec<u32>, Vec<u32>) {
+pub fn random_cabinet(dice: &mut Dice) -> (Table, Vec<u32>, Vec<u32>) {
     let mut table = Table {
         n: dice.from_to(1, MOST_TASKS as u32) as u8,
         ..Table::default()
@@ -162,9 +162,15 @@ fn written_and_read_back() {
     for _ in 0..500 {
         let (table, own, catalogue) = random_cabinet(&mut dice);
         let file = file_of(&table, &own, &catalogue);
-        assert_eq!(file.len(), length(table.n as usize, own.len()));
+        assert_eq!(
+            file.len(),
+            length(Edition::One, table.n as usize, own.len())
+        );
         let mut words = vec![0; own.len()];
-        assert_eq!(read(PLATE, &catalogue, &file, &mut words), Ok(table));
+        assert_eq!(
+            read(PLATE, &catalogue, &file, &mut words),
+            Ok((Edition::One, table))
+        );
         assert_eq!(words, own);
         assert_eq!(file_of(&table, &words, &catalogue), file);
     }
@@ -197,11 +203,11 @@ fn parts_of_what_was_written() {
 fn writing_touches_the_file_and_no_more() {
     let (table, own) = two_jobs();
     let mut out = [0xEE; 60];
-    let written = write(PLATE, &table, &own, &[], &mut out).expect("refused");
-    assert_eq!(written, length(2, 2));
+    let written = write(1, PLATE, &table, &own, &[], &mut out).expect("refused");
+    assert_eq!(written, length(Edition::One, 2, 2));
     assert!(out[written..].iter().all(|byte| *byte == 0xEE));
     let mut short = [0xEE; 38];
-    assert_eq!(write(PLATE, &table, &own, &[], &mut short), refused(12));
+    assert_eq!(write(1, PLATE, &table, &own, &[], &mut short), refused(12));
     assert_eq!(short, [0xEE; 38]);
 }
 

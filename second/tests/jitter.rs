@@ -548,12 +548,18 @@ fn late_table(dice: &mut Dice, n: u32, least: u32, most: u32) -> Table {
     table
 }
 
-fn responses(table: &Table) -> Vec<Option<Response>> {
+pub fn responses(table: &Table) -> Vec<Option<Response>> {
     let response = |(time, job)| Response { time, job };
     let tasks = table.tasks().iter();
     tasks
         .map(|i| with_all(table).response(i).map(response))
         .collect()
+}
+
+/// Nothing for a task that no t is left to.
+pub fn all_tolerances(table: &Table) -> Vec<Option<i64>> {
+    let tasks = table.tasks().iter();
+    tasks.map(|i| with_all(table).tolerance(i)).collect()
 }
 
 #[test]
@@ -588,8 +594,7 @@ fn tolerances_value_by_value() {
         for record in &mut table.records {
             record.deadline = record.deadline.min(record.period);
         }
-        let tasks = table.tasks().iter();
-        let all: Vec<Option<i64>> = tasks.map(|i| with_all(&table).tolerance(i)).collect();
+        let all = all_tolerances(&table);
         let no_t = all.iter().position(|tolerance| tolerance.is_none());
         let fault = all.iter().position(|tolerance| *tolerance < Some(0));
         let expected = match no_t {
@@ -666,7 +671,7 @@ fn turned_away(table: &Table, own: &[u32]) -> [u8; 7] {
     let number = |refusal: Option<Refusal>| refusal.map_or(0, |refusal| refusal.number);
     let out = &mut [0; 400];
     [
-        number(write(PLATE, table, own, &[], out).err()),
+        number(write(1, PLATE, table, own, &[], out).err()),
         number(response_times(table).err()),
         number(tolerances(table).err()),
         number(lengths(table).err()),
@@ -676,7 +681,7 @@ fn turned_away(table: &Table, own: &[u32]) -> [u8; 7] {
     ]
 }
 
-/// From 0 to T - 1; only the writing has no place for it, and a large one leaves no t.
+/// From 0 to T - 1; only the writing of edition 1 has no place for it, and a large one leaves no t.
 #[test]
 fn the_range_of_a_jitter() {
     for record in 0..2 {
@@ -721,14 +726,14 @@ fn regions_do_not_ask_for_jitter() {
     assert_eq!(parts::regions(&table, &own, &[], 2), Ok(&own[1..]));
 }
 
-/// 19 stands behind 5, 18, 9, 10 and 11, and before 12; nothing is written.
+/// 19 stands behind 5, 18, 9, 10 and 11, and before 12; nothing is written as edition 1.
 #[test]
 fn nineteen_and_the_others() {
     let (mut table, own) = two_jobs();
     table.records[1].jitter = 1;
     let writing = |plate: Plate, table: &Table, own: &[u32], room: usize| {
         let mut out = vec![7; room];
-        let answer = write(plate, table, own, &[], &mut out);
+        let answer = write(1, plate, table, own, &[], &mut out);
         assert_eq!(out, vec![7; room]);
         answer.expect_err("a jitter").number
     };
@@ -749,7 +754,7 @@ fn nineteen_and_the_others() {
         ..PLATE
     };
     assert_eq!(writing(blank, &table, &own, 39), 18);
-    // Unassigned tables are written, but not with a jitter.
+    // Unassigned tables are written as edition 1, but not with a jitter.
     let clear = |table: &mut Table| {
         for record in &mut table.records {
             (record.priority, record.threshold) = (0, 0);
@@ -757,7 +762,7 @@ fn nineteen_and_the_others() {
     };
     assert_eq!(with(&clear), [19; 3]);
     table.records[1].jitter = 0;
-    assert_eq!(write(PLATE, &table, &own, &[], &mut [0; 39]), Ok(39));
+    assert_eq!(write(1, PLATE, &table, &own, &[], &mut [0; 39]), Ok(39));
 }
 
 /// A file of edition 1 reads with every J at 0, and is written again from that.
@@ -765,7 +770,8 @@ fn nineteen_and_the_others() {
 fn files_read_without_jitter() {
     let (table, own) = two_jobs();
     let file = file_of(&table, &own, &[]);
-    let read = read(PLATE, &[], &file, &mut [0; 2]).expect("refused");
+    let (edition, read) = read(PLATE, &[], &file, &mut [0; 2]).expect("refused");
+    assert_eq!(edition, Edition::One);
     assert!(read.records.iter().all(|record| record.jitter == 0));
     assert_eq!(file_of(&read, &own, &[]), file);
 }

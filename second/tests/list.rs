@@ -52,7 +52,7 @@ fn blank_plates_and_files() {
     }
     assert_eq!(listed(&PLATE_BYTES, &blank), "refused 18\n");
     let mut edition = blank;
-    edition[0] = 0x20;
+    edition[0] = 0x30;
     assert_eq!(listed(&[0; 5], &resealed(edition)), "refused 2\n");
 }
 

@@ -42,6 +42,51 @@ fn a_description() {
     );
 }
 
+/// The same description as edition 2, and with jitters; without an edition it is as edition 1.
+#[test]
+fn editions_and_jitters() {
+    let mut table = assigned(&[(2, 5, 6), (4, 10, 10)], &[1, 2], &[1, 1]);
+    (table.records[0].count, table.records[0].name) = (1, 3);
+    let second = &mut table.records[1];
+    (second.source, second.first, second.count, second.name) = (Source::Catalogue, 1, 2, 64);
+    let file = |edition, table: &Table| Some(file_in(edition, table, &[2], &[9, 3, 1]));
+    let first = file(Edition::One, &table);
+    assert_eq!(made(&format!("{TWO_JOBS}edition 1\n")), first);
+    let second = file(Edition::Two, &table);
+    assert_eq!(made(&format!("edition 2\n{TWO_JOBS}")), second);
+    let in_time = TWO_JOBS.replace("name 64", "name 64 jitter 0");
+    assert_eq!(made(&in_time), first);
+    // Some of the tasks may have one.
+    let late = TWO_JOBS.replace("name 64", "name 64 jitter 9");
+    table.records[1].jitter = 9;
+    let second = file(Edition::Two, &table);
+    assert_eq!(made(&format!("{late}edition 2")), second);
+    let both = late.replace("name 3", "name 3 jitter 4");
+    table.records[0].jitter = 4;
+    let second = file(Edition::Two, &table);
+    assert_eq!(made(&format!("{both}edition 2")), second);
+    // The writer has the last word: 19, 9 and 2.
+    assert_eq!(made(&late), None);
+    assert_eq!(made(&format!("{late}edition 1")), None);
+    let too_late = late.replace("jitter 9", "jitter 10");
+    assert_eq!(made(&format!("{too_late}edition 2")), None);
+    for edition in ["0", "3", "17", "255", "256", "257", "258", "-1", "two", ""] {
+        assert_eq!(made(&format!("{TWO_JOBS}edition {edition}\n")), None);
+    }
+    // Once, and its words in their order.
+    assert_eq!(made(&format!("{TWO_JOBS}edition 2\nedition 2\n")), None);
+    for task in [
+        "name 64 jitter",
+        "name 64 jitter 1 2",
+        "name 64 jitter 1 jitter 1",
+        "name 64 late 1",
+        "jitter 1 name 64",
+    ] {
+        let text = TWO_JOBS.replace("name 64", task);
+        assert_eq!(made(&format!("{text}edition 2\n")), None, "{task}");
+    }
+}
+
 #[test]
 fn damage() {
     let sound = made(TWO_JOBS).expect("a file");

@@ -5,7 +5,7 @@ use crate::draw::{any_row, cabinet, draw_jitters, ease_jitters};
 use crate::draw::{is_late, last_row, step_back};
 use crate::listing::Walk;
 use crate::random::Random;
-use crate::{ask, generate, listing, reach, Stop};
+use crate::{ask, file, generate, listing, reach, Stop};
 
 /// Few enough requests for a test, and enough for the count to assert.
 const COUNT: u64 = 20_000;
@@ -70,6 +70,16 @@ fn a_missing_outcome_is_named() {
             10,
             "refused 13",
             "regions, refused 13: came 0 times, wanted 1",
+        ),
+        (
+            14,
+            "refused 2 ",
+            "write an edition, another answer by four bits of the edition: came 0 times, wanted 1",
+        ),
+        (
+            14,
+            "refused 19",
+            "write an edition, edition 1 refused 19: came 0 times, wanted 1",
         ),
     ] {
         let stream = without(&requests, kind, begin);
@@ -153,28 +163,81 @@ fn too_few_later_jobs_are_named() {
     assert!(said.lines().any(|said| said.starts_with(line)), "{said}");
 }
 
-/// A file of edition 1 has no place for a jitter: one that is read is 0, and the line has a place for
-/// it.
+fn stream_of(kind: u8, body: &[u8]) -> Vec<u8> {
+    [&[kind][..], &(body.len() as u16).to_be_bytes(), body].concat()
+}
+
+/// What is read, written again in its edition, is the file: another number, or another edition, fails.
 #[test]
-fn a_jitter_that_is_read_fails() {
-    let (table, own) = two_jobs();
-    let file = file_of(&table, &own, &[]);
-    let mut body = Vec::new();
+fn another_table_than_the_files_fails() {
+    let (mut table, own) = two_jobs();
+    for (edition, jitter) in [(1, 0), (2, 0), (2, 3)] {
+        table.records[1].jitter = jitter;
+        let mut file = [0; 45];
+        let length = file::write(edition, PLATE, &table, &own, &[], &mut file).expect("a file");
+        let mut body = Vec::new();
+        generate::put_plate(&mut body, PLATE);
+        generate::put_two(&mut body, 2);
+        generate::put_words(&mut body, &[]);
+        generate::put_bytes(&mut body, &file[..length]);
+        let stream = stream_of(1, &body);
+        let right = format!(
+            "table 2 2 5 5 1 1 0 0 1 0 0 4 10 10 2 2 0 1 1 0 {jitter} edition {edition} out 2 4"
+        );
+        assert_eq!(answers(&stream), format!("{right}\n").as_bytes());
+        assert_eq!(missing(&stream, right.as_bytes()), None);
+        for (from, to) in [
+            (
+                format!("0 {jitter} edition"),
+                format!("0 {} edition", jitter + 1),
+            ),
+            (String::from("1 0 0 4"), String::from("1 0 3 4")),
+            (
+                format!("edition {edition}"),
+                format!("edition {}", 3 - edition),
+            ),
+            (format!("edition {edition} "), String::new()),
+            (format!(" {jitter} edition"), String::from(" edition")),
+            (String::from("out 2 4"), String::from("out 2 5")),
+        ] {
+            let wrong = right.replace(&from, &to);
+            assert_ne!(wrong, right);
+            let said = missing(&stream, wrong.as_bytes()).expect("a failure");
+            assert_eq!(said, format!("request 1: read can't answer `{wrong}`"));
+        }
+    }
+}
+
+/// What is written reads as it was, in the edition that was told.
+#[test]
+fn another_file_than_the_tables_fails() {
+    let (mut table, own) = two_jobs();
+    table.records[1].jitter = 3;
+    let mut body = vec![2];
     generate::put_plate(&mut body, PLATE);
-    generate::put_two(&mut body, 2);
+    generate::put_two(&mut body, 46);
+    generate::put_table(&mut body, &table);
+    generate::put_words(&mut body, &own);
     generate::put_words(&mut body, &[]);
-    generate::put_bytes(&mut body, &file);
-    let stream = [&[1][..], &(body.len() as u16).to_be_bytes(), &body].concat();
-    let right = "table 2 2 5 5 1 1 0 0 1 0 0 4 10 10 2 2 0 1 1 0 0 out 2 4";
-    assert_eq!(answers(&stream), format!("{right}\n").as_bytes());
+    let stream = stream_of(14, &body);
+    let right = String::from_utf8(answers(&stream)).expect("text");
     assert_eq!(missing(&stream, right.as_bytes()), None);
+    table.records[1].jitter = 0;
+    let text = |edition, table: &Table| {
+        let mut file = [0xA5; 46];
+        let length = file::write(edition, PLATE, table, &own, &[], &mut file).expect("a file");
+        let bytes: String = file.iter().map(|byte| format!("{byte:02x}")).collect();
+        format!("file {length} out {bytes}")
+    };
     for wrong in [
-        "table 2 2 5 5 1 1 0 0 1 0 0 4 10 10 2 2 0 1 1 0 1 out 2 4",
-        "table 2 2 5 5 1 1 0 0 1 0 3 4 10 10 2 2 0 1 1 0 0 out 2 4",
-        "table 2 2 5 5 1 1 0 0 1 0 4 10 10 2 2 0 1 1 0 out 2 4",
+        text(1, &table),
+        text(2, &table),
+        right.replace("file 45", "file 46"),
     ] {
         let said = missing(&stream, wrong.as_bytes()).expect("a failure");
-        assert_eq!(said, format!("request 1: read can't answer `{wrong}`"));
+        let wrong = wrong.trim_end();
+        let line = format!("request 1: write an edition can't answer `{wrong}`");
+        assert_eq!(said, line);
     }
 }
 
@@ -247,24 +310,23 @@ fn an_unanswered_request_fails() {
     assert_eq!(said, "only 0 requests are answered");
 }
 
-/// The first file that a stream cuts is as long as any: all its cuts come, and one byte more.
+/// The first files that a stream cuts are as long as any of the two editions: all their cuts come, and
+/// one byte more.
 #[test]
-fn the_longest_file_is_cut() {
-    let mut cuts = Vec::new();
-    for request in requests(5, 1) {
-        let mut body = ask::Body(&request[3..]);
-        if request[0] == 1 && cuts.len() <= 441 {
+fn the_longest_files_are_cut() {
+    let mut cuts = requests(5, 1).into_iter().filter(|request| request[0] == 1);
+    for longest in [440, 485] {
+        for cut in 0..=longest + 1 {
+            let request = cuts.next().expect("a cut");
+            let mut body = ask::Body(&request[3..]);
             body.plate().expect("a plate");
             body.two().expect("room");
             body.words().expect("a catalogue");
-            cuts.push((body.bytes().expect("a file").len(), answers(&request)));
+            assert_eq!(body.bytes().expect("a file").len(), cut);
+            let read = answers(&request).starts_with(b"table 15 ");
+            assert_eq!(read, cut == longest, "{cut}");
         }
     }
-    for (at, (length, answer)) in cuts.iter().enumerate() {
-        assert_eq!(*length, at);
-        assert_eq!(answer.starts_with(b"table 15 "), at == 440, "{at}");
-    }
-    assert_eq!(cuts.len(), 442);
 }
 
 /// A step back is the row before: the listing of a table that every row passes goes forward.

@@ -18,13 +18,14 @@ fn reading(change: impl Fn(&mut Vec<u8>)) -> Result<Table, Refusal> {
     let (table, own) = two_jobs();
     let mut file = file_of(&table, &own, &[]);
     change(&mut file);
-    read(PLATE, &[], &resealed(file), &mut [0; 2])
+    read(PLATE, &[], &resealed(file), &mut [0; 2]).map(|(_, table)| table)
 }
 
 #[test]
 fn reading_head() {
     assert!(reading(|_| {}).is_ok());
-    assert_eq!(reading(|file| file[0] = 0x20), refused(2));
+    assert_eq!(reading(|file| file[0] = 0x00), refused(2));
+    assert_eq!(reading(|file| file[0] = 0x30), refused(2));
     assert_eq!(reading(|file| file[3] ^= 1), refused(3));
     assert_eq!(reading(|file| file[5] ^= 1), refused(4));
     assert_eq!(reading(|file| file[6] = 0), refused(5));
@@ -100,7 +101,7 @@ fn writing() {
     let with = |change: &dyn Fn(&mut Table)| {
         let mut table = table;
         change(&mut table);
-        write(PLATE, &table, &own, &[], &mut [0; 400])
+        write(1, PLATE, &table, &own, &[], &mut [0; 400])
     };
     assert_eq!(with(&|_| {}), Ok(39));
     assert_eq!(with(&|table| table.n = 0), refused(5));
@@ -136,7 +137,7 @@ fn writing() {
 fn writing_lists_and_cabinets() {
     let (mut table, own) = two_jobs();
     let writing = |table: &Table, own: &[u32], catalogue: &[u32]| {
-        write(PLATE, table, own, catalogue, &mut [0; 400])
+        write(1, PLATE, table, own, catalogue, &mut [0; 400])
     };
     assert_eq!(writing(&table, &[2; 101], &[]), refused(5));
     assert_eq!(writing(&table, &[2, 4, 0], &[]), refused(11));
@@ -148,17 +149,20 @@ fn writing_lists_and_cabinets() {
         cabinet: (1 << 24) - 1,
         line: u16::MAX,
     };
-    assert_eq!(write(largest, &table, &own, &[0, 4], &mut [0; 39]), Ok(39));
+    assert_eq!(
+        write(1, largest, &table, &own, &[0, 4], &mut [0; 39]),
+        Ok(39)
+    );
     let too_large = Plate {
         cabinet: 1 << 24,
         line: 1,
     };
     assert_eq!(
-        write(too_large, &table, &own, &[0, 4], &mut [0; 39]),
+        write(1, too_large, &table, &own, &[0, 4], &mut [0; 39]),
         refused(9)
     );
     assert_eq!(
-        write(largest, &table, &own, &[0, 4], &mut [0; 38]),
+        write(1, largest, &table, &own, &[0, 4], &mut [0; 38]),
         refused(12)
     );
 }

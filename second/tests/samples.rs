@@ -1,6 +1,7 @@
 //! The samples: each is what its description makes, and is what its description says.
 
 use super::brute::{all_lengths, all_tolerances, responses};
+use super::jitter;
 use super::*;
 use crate::analysis::{passes, Tasks};
 use crate::checks::Refusal;
@@ -34,6 +35,9 @@ const PRESS_EIGHT: Sample = sample!("press-eight");
 const PRESS_EIGHT_CATALOGUE: &str = include_str!("../../samples/press-eight.catalogue");
 const PACKER_FIFTEEN: Sample = sample!("packer-fifteen");
 const PACKER_FIFTEEN_CATALOGUE: &str = include_str!("../../samples/packer-fifteen.catalogue");
+const BUS_SIX: Sample = sample!("bus-six");
+const BUS_EIGHT: Sample = sample!("bus-eight");
+const BUS_EIGHT_CATALOGUE: &str = include_str!("../../samples/bus-eight.catalogue");
 const CABINET_NAMES: &[u8] = include_bytes!("../../samples/cabinet.names");
 const HOUSE_NAMES: &[u8] = include_bytes!("../../samples/house.names");
 
@@ -51,10 +55,12 @@ fn plate_of(sample: &Sample) -> Plate {
     }
 }
 
-/// The sample's table and own region words.
+/// The sample's table and own region words. A file has jitters exactly where it is of edition 2.
 fn cabinet(sample: &Sample, catalogue: &[u32]) -> Result<(Table, Vec<u32>), Refusal> {
     let mut words = [0; MOST_REGION_WORDS];
-    let table = read(plate_of(sample), catalogue, sample.file, &mut words)?;
+    let (edition, table) = read(plate_of(sample), catalogue, sample.file, &mut words)?;
+    let late = table.tasks().iter().any(|task| task.jitter > 0);
+    assert_eq!(late, edition == Edition::Two);
     Ok((table, words[..sample.file[7] as usize].to_vec()))
 }
 
@@ -74,6 +80,8 @@ fn made_from_their_descriptions() {
         TIGHT_SIX,
         PRESS_EIGHT,
         PACKER_FIFTEEN,
+        BUS_SIX,
+        BUS_EIGHT,
     ] {
         assert_eq!(
             make::file(sample.description).ok().as_deref(),
@@ -90,6 +98,7 @@ fn made_from_their_descriptions() {
     for (sample, catalogue) in [
         (PRESS_EIGHT, PRESS_EIGHT_CATALOGUE),
         (PACKER_FIFTEEN, PACKER_FIFTEEN_CATALOGUE),
+        (BUS_EIGHT, BUS_EIGHT_CATALOGUE),
     ] {
         let made = make::catalogue(sample.description).ok();
         assert_eq!(made.as_deref(), Some(catalogue));
@@ -187,6 +196,57 @@ fn packer_fifteen() {
     assert_eq!(all_lengths(&table), Ok(longest.to_vec()));
     assert_eq!(regions_fit(&table, &own, &catalogue), Ok(true));
     assert_eq!(listed(&PACKER_FIFTEEN), "refused 11\n");
+}
+
+/// The jitters of the jobs, in the order of the records.
+fn jitters(table: &Table) -> Vec<u32> {
+    table.tasks().iter().map(|task| task.jitter).collect()
+}
+
+#[test]
+fn bus_six() {
+    let (table, own) = cabinet(&BUS_SIX, &[]).expect("refused");
+    assert_eq!(jitters(&table), [4, 0, 6, 10, 0, 0]);
+    let times = of_first_jobs(&[6, 9, 25, 33, 64, 65]);
+    assert_eq!(jitter::responses(&table), times);
+    assert_eq!(response_times(&table), Ok(times));
+    assert!(passes(&Tasks::of(&table)));
+    // The least of the higher jobs' is 9 from the second on, so each length but the last is its cost.
+    let ticks = [9, 13, 19, 15, 27, 49];
+    assert_eq!(jitter::all_tolerances(&table), ticks.map(Some));
+    assert_eq!(tolerances(&table), Ok(ticks.to_vec()));
+    assert_eq!(lengths(&table), Ok(vec![2, 3, 5, 4, 8, 10]));
+    assert_eq!(regions_fit(&table, &own, &[]), Ok(true));
+    // Those of the event log are as long as they may be.
+    let longer = [&own[..7], &[11, 9, 2]].concat();
+    assert_eq!(regions_fit(&table, &longer, &[]), Ok(false));
+    assert_eq!(rows(&BUS_SIX), 4568);
+}
+
+#[test]
+fn bus_eight() {
+    let catalogue = words_of(BUS_EIGHT_CATALOGUE);
+    let (mut table, own) = cabinet(&BUS_EIGHT, &catalogue).expect("refused");
+    assert_eq!(jitters(&table), [3, 0, 5, 0, 12, 30, 0, 0]);
+    let times = of_first_jobs(&[5, 6, 19, 103, 52, 53, 112, 113]);
+    assert_eq!(jitter::responses(&table), times);
+    assert_eq!(response_times(&table), Ok(times));
+    assert!(!passes(&Tasks::of(&table)));
+    let no_t = Refusal {
+        number: 16,
+        record: Some(6),
+    };
+    assert_eq!(jitter::all_tolerances(&table)[5], None);
+    assert_eq!(tolerances(&table), Err(no_t));
+    assert_eq!(lengths(&table), Err(no_t));
+    assert_eq!(regions_fit(&table, &own, &catalogue), Err(no_t));
+    assert_eq!(listed(&BUS_EIGHT), "refused 11\n");
+    for (jitter, in_time) in [(7, true), (8, false)] {
+        table.records[5].jitter = jitter;
+        assert_eq!(passes(&Tasks::of(&table)), in_time);
+    }
+    table.records[5].jitter = 7;
+    assert_eq!(times_of(&table).expect("refused")[5], Some(30));
 }
 
 #[test]

@@ -36,7 +36,8 @@ fn answer(buf: &mut [u8], kind: u8, body: &[u8], words: &mut [u32], bytes: &mut 
         8 => ask_rows::next(buf, body, bytes),
         9 => ask_parts::record(buf, body),
         10 => ask_parts::regions(buf, body),
-        _ => ask_parts::name(buf, body),
+        11 => ask_parts::name(buf, body),
+        _ => ask_files::write_edition(buf, body, bytes),
     }
 }
 

@@ -1,4 +1,4 @@
-// Kinds 1 and 2: reading and writing a file.
+// Kinds 1, 2 and 14: reading and writing a file.
 ghost use Prim.Native.Nat.{_≤_};
 ghost use lib.ListN.{length};
 ghost use Rattle.paper.specs.Numbers.{mostTasks};
@@ -72,7 +72,10 @@ fn put_read(buf: &mut [u8], answer: ReadAnswer) -> usize
     let outcome = answer.outcome;
     match outcome {
         Outcome::Refused(r) => say::refused(buf, 0, r),
-        Outcome::Done => put_table(buf, answer.table),
+        Outcome::Done => {
+            let said = put_table(buf, answer.table);
+            say::count(buf, said, b" edition", answer.edition as u64)
+        }
     }
 }
 
@@ -108,7 +111,7 @@ fn put_written(buf: &mut [u8], answer: WriteAnswer) -> usize
 
 const OWN: usize = 8 + TABLE_BYTES;
 
-fn write_into(buf: &mut [u8], body: &[u8], out: &mut [u8]) -> usize
+fn write_into(buf: &mut [u8], edition: u8, body: &[u8], out: &mut [u8]) -> usize
     ensures { λ r. ⌜ r ≤ length (now (buf .entry)) ⌝ }
 {
     let cabinet = request::cabinet_at(body, 0);
@@ -118,14 +121,33 @@ fn write_into(buf: &mut [u8], body: &[u8], out: &mut [u8]) -> usize
     let m = request::take_words(body, OWN, &mut own);
     let mut catalogue = [0u32; MOST_BODY_WORDS];
     let k = request::take_words(body, request::words_end(body, OWN), &mut catalogue);
-    let answer = writer::write(t, cabinet, line, &own[..m], &catalogue[..k], out);
+    let answer = writer::write(edition, t, cabinet, line, &own[..m], &catalogue[..k], out);
     let said = put_written(buf, answer);
     say::out_file(buf, said, out)
 }
 
-pub fn write(buf: &mut [u8], body: &[u8], bytes: &mut [u8]) -> usize
+fn write_as(buf: &mut [u8], edition: u8, body: &[u8], bytes: &mut [u8]) -> usize
     ensures { λ r. ⌜ r ≤ length (now (buf .entry)) ⌝ }
 {
     let room = fronts::fill_bytes(bytes, request::two_at(body, 6), FILL);
-    write_into(buf, body, &mut bytes[..room])
+    write_into(buf, edition, body, &mut bytes[..room])
+}
+
+// Kind 2 writes edition 1.
+pub fn write(buf: &mut [u8], body: &[u8], bytes: &mut [u8]) -> usize
+    ensures { λ r. ⌜ r ≤ length (now (buf .entry)) ⌝ }
+{
+    write_as(buf, 1, body, bytes)
+}
+
+// Kind 14 is told the edition.
+pub fn write_edition(buf: &mut [u8], body: &[u8], bytes: &mut [u8]) -> usize
+    ensures { λ r. ⌜ r ≤ length (now (buf .entry)) ⌝ }
+{
+    write_as(
+        buf,
+        request::edition_of(body),
+        request::behind_edition(body),
+        bytes,
+    )
 }

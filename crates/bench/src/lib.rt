@@ -32,11 +32,12 @@ pub extern "C" fn bench_read(file: &[u8], cabinet: u32, line: u16, out: &mut [u3
     number(outcome)
 }
 
+// Edition 1.
 #[no_mangle]
 pub extern "C" fn bench_write(table: &[u8], own: &[u32], out: &mut [u8]) -> u64 {
     let t = request::table_at(table, 0);
     let catalogue: [u32; 0] = [];
-    let answer = writer::write(t, Cabinet(70001), Line(12), own, &catalogue, out);
+    let answer = writer::write(1, t, Cabinet(70001), Line(12), own, &catalogue, out);
     match answer {
         WriteAnswer::File(_) => 0,
         WriteAnswer::Refused(r) => numbers::number_of(r),

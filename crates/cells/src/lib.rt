@@ -106,7 +106,7 @@ fn put_reason(buf: &mut [u8], at: usize, r: Refusal) -> usize
 {
     match r {
         Refusal::Short => say::word(buf, at, b"the file is shorter than 22 bytes"),
-        Refusal::WrongEdition => say::word(buf, at, b"the file's edition is not 1"),
+        Refusal::WrongEdition => say::word(buf, at, b"the file's edition is neither 1 nor 2"),
         Refusal::WrongCabinet => say::word(buf, at, b"the file is for another cabinet"),
         Refusal::WrongLine => say::word(buf, at, b"the file is for another line"),
         Refusal::WrongCounts => say::word(
@@ -124,7 +124,7 @@ fn put_reason(buf: &mut [u8], at: usize, r: Refusal) -> usize
         Refusal::OutOfRange => say::word(
             buf,
             at,
-            b"a cost, a period or a deadline is out of range",
+            b"a cost, a period, a deadline or a jitter is out of range",
         ),
         Refusal::BadAssignment => say::word(
             buf,

@@ -1,4 +1,4 @@
--- The numbers that each call asks, in the order asked, as document 01 lists them under its table, with what document 02 adds: 18 (item 1), 19 and 16 for tolerances (item 8). By computation.
+-- The numbers that each call asks, in the order asked, as document 01 lists them under its table, with what document 02 adds: 18 (item 1), 19 and 16 for tolerances (item 8), 2 for writing (item 9). By computation.
 use Prim.Native.Nat.{ℕ}
 use mathlib.Core.Path.{_≡_, refl}
 use mathlib.Core.List.{List, [], _∷_, map}
@@ -13,10 +13,10 @@ pub reading : (f : List ℕ) (cabinet line : ℕ) (catalogue : List ℕ) (room :
     → numbers (readAsks f cabinet line catalogue room) ≡ 1 ∷ 2 ∷ 18 ∷ 3 ∷ 4 ∷ 5 ∷ 6 ∷ 7 ∷ 8 ∷ 9 ∷ 10 ∷ 11 ∷ 12 ∷ []
 reading f cabinet line catalogue room = refl
 
--- Writing asks 5, 9, 10, 11, 12, with 18 straight after 5 and 19 between 11 and 12
-pub writing : (t : Table) (cabinet line : ℕ) (own catalogue : List ℕ) (room : ℕ)
-    → numbers (writeAsks t cabinet line own catalogue room) ≡ 5 ∷ 18 ∷ 9 ∷ 10 ∷ 11 ∷ 19 ∷ 12 ∷ []
-writing t cabinet line own catalogue room = refl
+-- Writing asks 5, 9, 10, 11, 12, with 2 first, 18 straight after 5 and 19 between 11 and 12
+pub writing : (e : ℕ) (t : Table) (cabinet line : ℕ) (own catalogue : List ℕ) (room : ℕ)
+    → numbers (writeAsks e t cabinet line own catalogue room) ≡ 2 ∷ 5 ∷ 18 ∷ 9 ∷ 10 ∷ 11 ∷ 19 ∷ 12 ∷ []
+writing e t cabinet line own catalogue room = refl
 
 -- Response times ask 5, 9, 10, 14
 pub response-times : (t : Table) → numbers (timesAsks t) ≡ 5 ∷ 9 ∷ 10 ∷ 14 ∷ []

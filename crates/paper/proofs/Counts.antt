@@ -7,7 +7,7 @@ use lib.ListN.{take, replicate}
 use borrow.Author.Tests.{le-leb, lt-leb}
 use native.Mathlib.Omega.{arith}
 use Rattle.paper.specs.Numbers.{mostTasks, tasksInRange}
-use Rattle.paper.specs.File.{tasksIn}
+use Rattle.paper.specs.File.{isEdition, tasksIn}
 use Rattle.paper.specs.Refusals.{numberOf, Asks, firstOf, fileAsks, recordAsks, readAsks, writeAsks, timesAsks, tolerancesAsks, lengthsAsks, fitAsks, firstAsks, nextAsks, regionsAsks}
 use Rattle.paper.proofs.Asks.{NoneApplies}
 use Rattle.paper.specs.declared.Table.{Table}
@@ -26,10 +26,10 @@ too-many-tasks n a = rw (le-leb 1 n (omega arith), lt-leb n mostTasks (omega ari
 pub with-5 : numberOf WrongCounts ≡ 5
 with-5 = refl
 
--- of a table it is asked first
-abbrev asksOfTable : Table → List ℕ → List ℕ → List ℕ → ℕ → ℕ → ℕ → ℕ → List Asks
-asksOfTable t own catalogue given cabinet line room number =
-    writeAsks t cabinet line own catalogue room ∷
+-- of a table it is asked first, in writing behind the edition e that is told
+abbrev asksOfTable : ℕ → Table → List ℕ → List ℕ → List ℕ → ℕ → ℕ → ℕ → ℕ → List Asks
+asksOfTable e t own catalogue given cabinet line room number =
+    writeAsks e t cabinet line own catalogue room ∷
     timesAsks t ∷
     tolerancesAsks t ∷
     lengthsAsks t ∷
@@ -38,9 +38,9 @@ asksOfTable t own catalogue given cabinet line room number =
     nextAsks t given room ∷
     regionsAsks t own catalogue number ∷ []
 
-pub table-refused : (t : Table) → tasksInRange (t .n) ≡ false → (own catalogue given : List ℕ) (cabinet line room number : ℕ)
-    → map (λ asks. firstOf asks) (asksOfTable t own catalogue given cabinet line room number) ≡ replicate 8 (Refused WrongCounts)
-table-refused t e own catalogue given cabinet line room number = rw e refl
+pub table-refused : (e : ℕ) (t : Table) → isEdition e ≡ true → tasksInRange (t .n) ≡ false → (own catalogue given : List ℕ) (cabinet line room number : ℕ)
+    → map (λ asks. firstOf asks) (asksOfTable e t own catalogue given cabinet line room number) ≡ replicate 8 (Refused WrongCounts)
+table-refused e t edition tasks own catalogue given cabinet line room number = rw (edition, tasks) refl
 
 -- what is asked of a file: by itself, to read it, to hand back a record
 abbrev pub asksOfFile : List ℕ → ℕ → ℕ → List ℕ → ℕ → ℕ → List Asks

@@ -22,3 +22,5 @@ pub mod Counts
 pub mod Plates
 pub mod Jitters
 pub mod Places
+pub mod Editions
+pub mod Layouts

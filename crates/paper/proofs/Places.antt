@@ -2,10 +2,12 @@
 use Prim.Native.Nat.{ℕ, _+_}
 use native.Mathlib.Nat.{add-assoc}
 use mathlib.Core.Path.{_≡_, refl}
-use mathlib.Core.List.{List}
+use mathlib.Core.Bool.{Bool, true, false, cond}
+use mathlib.Core.List.{List, [], _∷_, _++_}
+use lib.Dec.{eqb}
 use lib.ListN.{getD}
-use Rattle.paper.specs.Bits.{field}
-use Rattle.paper.specs.File.{headFields, editionIn, cabinetIn, lineIn, tasksIn, wordsIn, recordFields, recordAt, sourceOf, recordIn}
+use Rattle.paper.specs.Bits.{field, fieldsAt}
+use Rattle.paper.specs.File.{headFields, editionIn, cabinetIn, lineIn, tasksIn, wordsIn, inEdition, usedWidths, recordWidths, sourceOf, recordFrom, spareFrom}
 
 pub record Head (f : List ℕ) : Type 0 where
   pub edition : editionIn f ≡ field f 0 4
@@ -18,20 +20,36 @@ pub record Head (f : List ℕ) : Type 0 where
 pub head-places : (f : List ℕ) → Head f
 head-places f = record { edition = refl; spare = refl; cabinet = refl; line = refl; tasks = refl; words = refl }
 
-pub record-places : (f : List ℕ) (k : ℕ) → recordIn f k ≡ record {
-  cost = field f (recordAt k) 20;
-  period = field f (recordAt k + 20) 20;
-  deadline = field f (recordAt k + 40) 20;
-  priority = field f (recordAt k + 60) 4;
-  threshold = field f (recordAt k + 64) 4;
-  source = sourceOf (field f (recordAt k + 68) 1);
-  first = field f (recordAt k + 69) 7;
-  count = field f (recordAt k + 76) 7;
-  name = field f (recordAt k + 83) 7;
-  jitter = 0;
-}
-record-places f k = simp add-assoc
+-- A record that begins at bit `at`, in both editions (e is the edition): its fields, and the last, its spare bits
+module _ (f : List ℕ) (e at : ℕ) where
+  abbrev fieldFrom : ℕ → ℕ → ℕ
+  fieldFrom from width = field f (at + from) width
 
--- its spare bits
-pub spare-place : (f : List ℕ) (k : ℕ) → getD (recordFields f k) 9 0 ≡ field f (recordAt k + 90) 6
-spare-place f k = simp add-assoc
+  -- its fields where the test for edition 2 says b
+  abbrev fields : Bool → List ℕ
+  fields b = fieldsAt f at (usedWidths ++ cond b (20 ∷ 10 ∷ []) (6 ∷ []))
+
+  jitter-place : (b : Bool) → cond b (getD (fields b) 9 0) 0 ≡ cond b (fieldFrom 90 20) 0
+  jitter-place true = simp add-assoc
+  jitter-place false = refl
+
+  pub record-places : recordFrom e (fieldsAt f at (recordWidths e)) ≡ record {
+    cost = field f at 20;
+    period = fieldFrom 20 20;
+    deadline = fieldFrom 40 20;
+    priority = fieldFrom 60 4;
+    threshold = fieldFrom 64 4;
+    source = sourceOf (fieldFrom 68 1);
+    first = fieldFrom 69 7;
+    count = fieldFrom 76 7;
+    name = fieldFrom 83 7;
+    jitter = inEdition e 0 (fieldFrom 90 20);
+  }
+  record-places = rw (← jitter-place (eqb e 2)) (simp add-assoc)
+
+  pub spare-place : spareFrom e (fieldsAt f at (recordWidths e)) ≡ inEdition e (fieldFrom 90 6) (fieldFrom 110 10)
+  spare-place = go (eqb e 2)
+    where
+      go : (b : Bool) → cond b (getD (fields b) 10 0) (getD (fields b) 9 0) ≡ cond b (fieldFrom 110 10) (fieldFrom 90 6)
+      go true = simp add-assoc
+      go false = simp add-assoc

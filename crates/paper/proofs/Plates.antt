@@ -9,11 +9,12 @@ use lib.ListN.{length, take, drop, replicate}
 use borrow.Author.Tests.{eqb-false, eq-eqb, ne-eqb, lt-ltb, le-ltb}
 use native.Mathlib.Omega.{arith}
 use Rattle.paper.specs.Numbers.{countsInRange}
-use Rattle.paper.specs.File.{editionIn, cabinetIn, lineIn, shortest}
+use Rattle.paper.specs.File.{isEdition, editionIn, cabinetIn, lineIn, shortest}
 use Rattle.paper.specs.Refusals.{numberOf, firstOf, blank, writeAsks}
 use Rattle.paper.specs.Answers.{writeOutcome}
 use Rattle.paper.proofs.Tests.{neither}
 use Rattle.paper.proofs.Counts.{asksOfFile}
+use Rattle.paper.proofs.Editions.{no-edition}
 use Rattle.paper.specs.declared.Table.{Table}
 use Rattle.paper.specs.declared.Refusal.the-variants.{Short, WrongEdition, WrongCounts, BlankPlate}
 use Rattle.paper.specs.declared.Outcome.the-variants.{Refused}
@@ -42,15 +43,15 @@ module _ (f : List ℕ) (cabinet line : ℕ) (catalogue : List ℕ) (room number
       → map (λ asks. firstOf asks) (asksOfFile f cabinet line catalogue room number) ≡ replicate 3 (Refused Short)
   short-first h = rw (lt-ltb (length f) shortest h) refl
 
-  pub edition-first : shortest ≤ length f → (editionIn f ≡ 1 → ⊥)
+  pub edition-first : shortest ≤ length f → (editionIn f ≡ 1 → ⊥) → (editionIn f ≡ 2 → ⊥)
       → map (λ asks. firstOf asks) (asksOfFile f cabinet line catalogue room number) ≡ replicate 3 (Refused WrongEdition)
-  edition-first h e = rw (le-ltb (length f) shortest h, ne-eqb (editionIn f) 1 e) refl
+  edition-first h one two = rw (le-ltb (length f) shortest h, no-edition (editionIn f) one two) refl
 
   -- then a zero in the file or on the plate
-  pub file-refused : shortest ≤ length f → editionIn f ≡ 1
+  pub file-refused : shortest ≤ length f → isEdition (editionIn f) ≡ true
       → ((cabinetIn f ≡ 0) ⊎ (lineIn f ≡ 0)) ⊎ ((cabinet ≡ 0) ⊎ (line ≡ 0))
       → map (λ asks. firstOf asks) (asksOfFile f cabinet line catalogue room number) ≡ replicate 3 (Refused BlankPlate)
-  file-refused h e z = simp (le-ltb (length f) shortest h, eq-eqb (editionIn f) 1 e, blank-here z) refl
+  file-refused h e z = simp (le-ltb (length f) shortest h, e, blank-here z) refl
     where
       blank-here : ((cabinetIn f ≡ 0) ⊎ (lineIn f ≡ 0)) ⊎ ((cabinet ≡ 0) ⊎ (line ≡ 0))
           → (blank (cabinetIn f) (lineIn f) || blank cabinet line) ≡ true
@@ -63,15 +64,15 @@ module _ (f : List ℕ) (cabinet line : ℕ) (catalogue : List ℕ) (room number
       ≡ map (λ asks. firstOf (take 2 asks ++ drop 3 asks)) (asksOfFile f cabinet line catalogue room number)
   file-as-before a b c l = rw (no-zero (cabinetIn f) (lineIn f) a b, no-zero cabinet line c l) refl
 
--- Writing: the counts, then a zero on the plate, and with no zero all as before
-module _ (t : Table) (cabinet line : ℕ) (own catalogue : List ℕ) (room : ℕ) where
-  pub counts-first : countsInRange (t .n) (length own) ≡ false → writeOutcome t cabinet line own catalogue room ≡ Refused WrongCounts
-  counts-first c = rw c refl
+-- Writing: behind the edition that is told the counts, then a zero on the plate, and with no zero all as before
+module _ (e : ℕ) (t : Table) (cabinet line : ℕ) (own catalogue : List ℕ) (room : ℕ) where
+  pub counts-first : isEdition e ≡ true → countsInRange (t .n) (length own) ≡ false → writeOutcome e t cabinet line own catalogue room ≡ Refused WrongCounts
+  counts-first edition c = rw (edition, c) refl
 
-  pub write-refused : countsInRange (t .n) (length own) ≡ true → (cabinet ≡ 0) ⊎ (line ≡ 0)
-      → writeOutcome t cabinet line own catalogue room ≡ Refused BlankPlate
-  write-refused c z = rw (c, zero-blank cabinet line z) refl
+  pub write-refused : isEdition e ≡ true → countsInRange (t .n) (length own) ≡ true → (cabinet ≡ 0) ⊎ (line ≡ 0)
+      → writeOutcome e t cabinet line own catalogue room ≡ Refused BlankPlate
+  write-refused edition c z = rw (edition, c, zero-blank cabinet line z) refl
 
   pub write-as-before : 1 ≤ cabinet → 1 ≤ line
-      → let asks = writeAsks t cabinet line own catalogue room in firstOf asks ≡ firstOf (take 1 asks ++ drop 2 asks)
+      → let asks = writeAsks e t cabinet line own catalogue room in firstOf asks ≡ firstOf (take 2 asks ++ drop 3 asks)
   write-as-before c l = rw (no-zero cabinet line c l) refl

@@ -8,7 +8,7 @@ use borrow.Author.Tests.{leb-true, ltb-false, eqb-true, not-false, le-leb, le-lt
 use lib.Dec.{leb}
 use lib.ListN.{length}
 use Rattle.paper.specs.Numbers.{mostTasks, mostWords, countsInRange, tasksInRange, recordsInRange, assignmentHolds}
-use Rattle.paper.specs.File.{editionIn, cabinetIn, lineIn, tasksIn, wordsIn, shortest, fileLength, sealed, spareClear, recordsIn, regionWords}
+use Rattle.paper.specs.File.{isEdition, editionIn, cabinetIn, lineIn, tasksIn, wordsIn, shortest, fileLength, sealed, spareClear, tableIn, ownWords}
 use Rattle.paper.specs.Regions.{allRegionsHold}
 use Rattle.paper.specs.Refusals.{blank, readAsks}
 use Rattle.paper.specs.Answers.{readOutcome}
@@ -20,7 +20,7 @@ use Rattle.paper.proofs.Plates.{plate-says}
 -- What is known of a file that was read for a cabinet and a line, with a catalogue, into room for so many words.
 pub record Loaded (f : List ℕ) (cabinet line : ℕ) (catalogue : List ℕ) (room : ℕ) : Type 0 where
   pub long : shortest ≤ length f
-  pub edition : editionIn f ≡ 1
+  pub edition : isEdition (editionIn f) ≡ true
   -- it is the plate's, and the plate is not blank
   pub cabinets : cabinetIn f ≡ cabinet
   pub lines : lineIn f ≡ line
@@ -28,12 +28,12 @@ pub record Loaded (f : List ℕ) (cabinet line : ℕ) (catalogue : List ℕ) (ro
   pub some-tasks : 1 ≤ tasksIn f
   pub few-tasks : tasksIn f ≤ mostTasks
   pub few-words : wordsIn f ≤ mostWords
-  pub size : length f ≡ fileLength (tasksIn f) (wordsIn f)
+  pub size : length f ≡ fileLength (editionIn f) (tasksIn f) (wordsIn f)
   pub seal : sealed f (length f - 2) ≡ true
-  pub spare : spareClear f (tasksIn f) (wordsIn f) ≡ true
-  pub ranges : recordsInRange (recordsIn f (tasksIn f)) (tasksIn f) ≡ true
-  pub assignment : assignmentHolds (recordsIn f (tasksIn f)) (tasksIn f) ≡ true
-  pub regions : allRegionsHold (recordsIn f (tasksIn f)) (tasksIn f) (regionWords f (tasksIn f) (wordsIn f)) catalogue ≡ true
+  pub spare : spareClear f (editionIn f) (tasksIn f) (wordsIn f) ≡ true
+  pub ranges : recordsInRange (tableIn f .records) (tasksIn f) ≡ true
+  pub assignment : assignmentHolds (tableIn f .records) (tasksIn f) ≡ true
+  pub regions : allRegionsHold (tableIn f .records) (tasksIn f) (ownWords f) catalogue ≡ true
   pub fits : wordsIn f ≤ room
 
 module _ (f : List ℕ) (cabinet line : ℕ) (catalogue : List ℕ) (room : ℕ) where
@@ -57,14 +57,14 @@ module _ (f : List ℕ) (cabinet line : ℕ) (catalogue : List ℕ) (room : ℕ)
       let tasks = within 1 mostTasks (tasksIn f) (counts .0) in
       record {
         long = ltb-false (length f) shortest (a1 .0);
-        edition = eqb-true (editionIn f) 1 (not-false _ (a2 .0));
+        edition = not-false _ (a2 .0);
         cabinets = eqb-true (cabinetIn f) cabinet (not-false _ (a3 .0));
         lines = eqb-true (lineIn f) line (not-false _ (a4 .0));
         plated = neither (blank (cabinetIn f) (lineIn f)) (blank cabinet line) (a18 .0) .1;
         some-tasks = tasks .0;
         few-tasks = tasks .1;
         few-words = leb-true (wordsIn f) mostWords (counts .1);
-        size = eqb-true (length f) (fileLength (tasksIn f) (wordsIn f)) (not-false _ (a6 .0));
+        size = eqb-true (length f) (fileLength (editionIn f) (tasksIn f) (wordsIn f)) (not-false _ (a6 .0));
         seal = not-false _ (a7 .0);
         spare = not-false _ (a8 .0);
         ranges = not-false _ (a9 .0);
@@ -78,12 +78,12 @@ module _ (f : List ℕ) (cabinet line : ℕ) (catalogue : List ℕ) (room : ℕ)
   read-done l =
       none-done (readAsks f cabinet line catalogue room)
       (le-ltb (length f) shortest (l .long)
-      and ap not (eq-eqb (editionIn f) 1 (l .edition))
+      and ap not (l .edition)
       and (rw (l .cabinets, l .lines, l .plated))
       and ap not (eq-eqb (cabinetIn f) cabinet (l .cabinets))
       and ap not (eq-eqb (lineIn f) line (l .lines))
       and (rw (le-leb 1 (tasksIn f) (l .some-tasks), le-leb (tasksIn f) mostTasks (l .few-tasks), le-leb (wordsIn f) mostWords (l .few-words)))
-      and ap not (eq-eqb (length f) (fileLength (tasksIn f) (wordsIn f)) (l .size))
+      and ap not (eq-eqb (length f) (fileLength (editionIn f) (tasksIn f) (wordsIn f)) (l .size))
       and ap not (l .seal)
       and ap not (l .spare)
       and ap not (l .ranges)

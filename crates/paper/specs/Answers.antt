@@ -7,7 +7,7 @@ use mathlib.Core.List.{List, [], _++_}
 use lib.IntN.{ℤ, pos}
 use lib.ListN.{length, take, drop, replicate}
 use Rattle.paper.specs.Numbers.{mostTasks, perTask, zeroRecord, rec, assigned}
-use Rattle.paper.specs.File.{tasksIn, wordsIn, fileLength, regionWords, tableIn, fileOf}
+use Rattle.paper.specs.File.{editionIn, wordsIn, fileLength, ownWords, tableIn, fileOf}
 use Rattle.paper.specs.Regions.{Part, partOf, noPart, listOf, recordPart, regionsPart, nameList, namePart}
 use Rattle.paper.specs.Analysis.{Tasks, tasksOf, standing, withJob}
 use Rattle.paper.specs.Lengths.{tolerance, lengthOf, allFit}
@@ -36,7 +36,7 @@ module _ {A : Type 0} where
   whenDone Done a b = a
   whenDone (Refused r) a b = b
 
--- Reading: the table and m; and the m region words at the front of the output
+-- Reading: the edition, the table and m; and the m region words at the front of the output
 abbrev pub noTable : Table
 noTable = record { n = 0; records = replicate mostTasks zeroRecord }
 
@@ -44,10 +44,15 @@ abbrev pub readOutcome : List ℕ → ℕ → ℕ → List ℕ → ℕ → Outco
 readOutcome f cabinet line catalogue room = firstOf (readAsks f cabinet line catalogue room)
 
 abbrev pub tableFor : Outcome → List ℕ → ReadAnswer
-tableFor o f = record { outcome = o; table = whenDone o (tableIn f) noTable; words = whenDone o (wordsIn f) 0 }
+tableFor o f = record {
+  outcome = o;
+  edition = whenDone o (editionIn f) 0;
+  table = whenDone o (tableIn f) noTable;
+  words = whenDone o (wordsIn f) 0;
+}
 
 abbrev pub wordsFor : Outcome → List ℕ → List ℕ → List ℕ
-wordsFor o f out = whenDone o (regionWords f (tasksIn f) (wordsIn f) ++ drop (wordsIn f) out) out
+wordsFor o f out = whenDone o (ownWords f ++ drop (wordsIn f) out) out
 
 abbrev pub readAnswer : List ℕ → ℕ → ℕ → List ℕ → List ℕ → ReadAnswer
 readAnswer f cabinet line catalogue out = tableFor (readOutcome f cabinet line catalogue (length out)) f
@@ -55,25 +60,25 @@ readAnswer f cabinet line catalogue out = tableFor (readOutcome f cabinet line c
 abbrev pub readOut : List ℕ → ℕ → ℕ → List ℕ → List ℕ → List ℕ
 readOut f cabinet line catalogue out = wordsFor (readOutcome f cabinet line catalogue (length out)) f out
 
--- Writing: the file's length; and exactly its bytes at the front of the output
-abbrev pub writeOutcome : Table → ℕ → ℕ → List ℕ → List ℕ → ℕ → Outcome
-writeOutcome t cabinet line own catalogue room = firstOf (writeAsks t cabinet line own catalogue room)
+-- Writing, told the edition e: the file's length; and exactly its bytes at the front of the output
+abbrev pub writeOutcome : ℕ → Table → ℕ → ℕ → List ℕ → List ℕ → ℕ → Outcome
+writeOutcome e t cabinet line own catalogue room = firstOf (writeAsks e t cabinet line own catalogue room)
 
 abbrev pub lengthFor : Outcome → ℕ → WriteAnswer
 lengthFor Done size = Write.File size
 lengthFor (Refused r) size = Write.Refused r
 
-abbrev pub fileFor : Outcome → Table → ℕ → ℕ → List ℕ → List ℕ → List ℕ
-fileFor o t cabinet line own out =
-    whenDone o (fileOf t cabinet line own ++ drop (fileLength (t .n) (length own)) out) out
+abbrev pub fileFor : Outcome → ℕ → Table → ℕ → ℕ → List ℕ → List ℕ → List ℕ
+fileFor o e t cabinet line own out =
+    whenDone o (fileOf e t cabinet line own ++ drop (fileLength e (t .n) (length own)) out) out
 
-abbrev pub writeAnswer : Table → ℕ → ℕ → List ℕ → List ℕ → List ℕ → WriteAnswer
-writeAnswer t cabinet line own catalogue out =
-    lengthFor (writeOutcome t cabinet line own catalogue (length out)) (fileLength (t .n) (length own))
+abbrev pub writeAnswer : ℕ → Table → ℕ → ℕ → List ℕ → List ℕ → List ℕ → WriteAnswer
+writeAnswer e t cabinet line own catalogue out =
+    lengthFor (writeOutcome e t cabinet line own catalogue (length out)) (fileLength e (t .n) (length own))
 
-abbrev pub writeOut : Table → ℕ → ℕ → List ℕ → List ℕ → List ℕ → List ℕ
-writeOut t cabinet line own catalogue out =
-    fileFor (writeOutcome t cabinet line own catalogue (length out)) t cabinet line own out
+abbrev pub writeOut : ℕ → Table → ℕ → ℕ → List ℕ → List ℕ → List ℕ → List ℕ
+writeOut e t cabinet line own catalogue out =
+    fileFor (writeOutcome e t cabinet line own catalogue (length out)) e t cabinet line own out
 
 -- Response times: for each task its R with the job that reached it, or beyond with job 0
 abbrev pub noTime : Response
@@ -138,7 +143,7 @@ recordOutcome f cabinet line catalogue number = firstOf (recordAsks f cabinet li
 
 -- the record: of the caller's own file
 abbrev pub recordPlace : List ℕ → ℕ → ℕ → List ℕ → ℕ → Part
-recordPlace f cabinet line catalogue number = partFor (recordOutcome f cabinet line catalogue number) (recordPart number)
+recordPlace f cabinet line catalogue number = partFor (recordOutcome f cabinet line catalogue number) (recordPart (editionIn f) number)
 
 abbrev pub recordBytes : List ℕ → ℕ → ℕ → List ℕ → ℕ → List ℕ
 recordBytes f cabinet line catalogue number = partOf (recordPlace f cabinet line catalogue number) f

@@ -1,4 +1,4 @@
--- Document 01, "Numbers a turned-away call returns", with 18 and 19 of document 02, items 1 and 8: for each call the numbers it asks, in the order asked.
+-- Document 01, "Numbers a turned-away call returns", with what document 02 adds to it, 18 (item 1), 19 and more of 9 and 16 (item 8), 2 and 6 of both editions (item 9): for each call the numbers it asks, in the order asked.
 use Prim.Native.Nat.{ℕ, _+_, _-_}
 use mathlib.Core.Bool.{Bool, not, _&&_, _||_, cond}
 use mathlib.Core.List.{List, [], _∷_, _++_}
@@ -6,7 +6,7 @@ use lib.Dec.{leb, ltb, eqb}
 use lib.ListN.{length}
 use Rattle.paper.specs.Vocabulary.{every}
 use Rattle.paper.specs.Numbers.{rec, tasksInRange, countsInRange, recordsInRange, mostCabinet, mostName, anyJitter, assigned, unassigned, assignmentHolds}
-use Rattle.paper.specs.File.{editionIn, cabinetIn, lineIn, tasksIn, wordsIn, shortest, fileLength, sealed, spareClear, recordsIn, regionWords}
+use Rattle.paper.specs.File.{isEdition, editionIn, cabinetIn, lineIn, tasksIn, wordsIn, shortest, fileLength, sealed, spareClear, tableIn, ownWords}
 use Rattle.paper.specs.Regions.{recordRegionsHold, allRegionsHold, nameWidth, nameList, nameStart}
 use Rattle.paper.specs.Analysis.{tasksOf}
 use Rattle.paper.specs.Lengths.{lowestNoInstant, lowestBelowZero}
@@ -71,6 +71,10 @@ abbrev pub firstOf : Asks → Outcome
 firstOf [] = Done
 firstOf (ask ∷ asks) = cond (ask .1) (Refused (ask .0)) (firstOf asks)
 
+-- an edition but 1 and 2, of a file or told to the writer
+abbrev pub wrongEdition : ℕ → Refusal × Bool
+wrongEdition e = (WrongEdition, not (isEdition e))
+
 -- n or m outside its range; a call that is lent no region words asks it of n alone
 abbrev pub wrongTasks : Table → Refusal × Bool
 wrongTasks t = (WrongCounts, not (tasksInRange (t .n)))
@@ -82,7 +86,7 @@ wrongCounts n m = (WrongCounts, not (countsInRange n m))
 abbrev pub blank : ℕ → ℕ → Bool
 blank cabinet line = eqb cabinet 0 || eqb line 0
 
--- C, T, D, name number or J outside its range
+-- C, T, D, name number or J outside its range; writing asks the cabinet's range with it
 abbrev pub outOfRange : List Record → ℕ → Refusal × Bool
 outOfRange rs n = (OutOfRange, not (recordsInRange rs n))
 
@@ -122,21 +126,21 @@ toleranceOverNone t = belowZeroAt (lowestNoInstant (tasksOf (t .records) (t .n))
 abbrev pub toleranceBelowZero : Table → Refusal × Bool
 toleranceBelowZero t = belowZeroAt (lowestBelowZero (tasksOf (t .records) (t .n)) (assigned (t .records)))
 
--- Reading asks 1, 2, 18, 3 to 11 of the file; 18 asks the plate too, 3 and 4 compare the two, 11 looks into the lent catalogue too
+-- Of a file reading and handing back a record ask 1, 2, 18, 3 to 11; 18 asks the plate too, 3 and 4 compare the two, 11 looks into the lent catalogue too
 abbrev pub fileAsks : List ℕ → ℕ → ℕ → List ℕ → Asks
 fileAsks f cabinet line catalogue =
     (Short, ltb (length f) shortest) ∷
-    (WrongEdition, not (eqb (editionIn f) 1)) ∷
+    wrongEdition (editionIn f) ∷
     (BlankPlate, blank (cabinetIn f) (lineIn f) || blank cabinet line) ∷
     (WrongCabinet, not (eqb (cabinetIn f) cabinet)) ∷
     (WrongLine, not (eqb (lineIn f) line)) ∷
     wrongCounts (tasksIn f) (wordsIn f) ∷
-    (WrongLength, not (eqb (length f) (fileLength (tasksIn f) (wordsIn f)))) ∷
+    (WrongLength, not (eqb (length f) (fileLength (editionIn f) (tasksIn f) (wordsIn f)))) ∷
     (WrongSeal, not (sealed f (length f - 2))) ∷
-    (SpareBitSet, not (spareClear f (tasksIn f) (wordsIn f))) ∷
-    outOfRange (recordsIn f (tasksIn f)) (tasksIn f) ∷
-    badAssignment (recordsIn f (tasksIn f)) (tasksIn f) ∷
-    badRegions (recordsIn f (tasksIn f)) (tasksIn f) (regionWords f (tasksIn f) (wordsIn f)) catalogue ∷ []
+    (SpareBitSet, not (spareClear f (editionIn f) (tasksIn f) (wordsIn f))) ∷
+    outOfRange (tableIn f .records) (tasksIn f) ∷
+    badAssignment (tableIn f .records) (tasksIn f) ∷
+    badRegions (tableIn f .records) (tasksIn f) (ownWords f) catalogue ∷ []
 
 -- Handing back a record reads the file first, so asks 1, 2, 18, 3 to 11, then 13
 abbrev pub recordAsks : List ℕ → ℕ → ℕ → List ℕ → ℕ → Asks
@@ -146,16 +150,17 @@ recordAsks f cabinet line catalogue number = fileAsks f cabinet line catalogue +
 abbrev pub readAsks : List ℕ → ℕ → ℕ → List ℕ → ℕ → Asks
 readAsks f cabinet line catalogue room = fileAsks f cabinet line catalogue ++ (noRoom room (wordsIn f) ∷ [])
 
--- Writing asks 5, 18, 9, 10, 11, 19, 12; there is no file yet, so 18 asks the plate alone. A file of edition 1, the only one yet, has no place for a J
-abbrev pub writeAsks : Table → ℕ → ℕ → List ℕ → List ℕ → ℕ → Asks
-writeAsks t cabinet line own catalogue room =
+-- Writing asks 2 of the edition that it is told, then 5, 18, 9, 10, 11, 19, 12; there is no file yet, so 18 asks the plate alone. 19 is asked of edition 1 alone, which has no place for a J
+abbrev pub writeAsks : ℕ → Table → ℕ → ℕ → List ℕ → List ℕ → ℕ → Asks
+writeAsks e t cabinet line own catalogue room =
+    wrongEdition e ∷
     wrongCounts (t .n) (length own) ∷
     (BlankPlate, blank cabinet line) ∷
     (OutOfRange, not (leb cabinet mostCabinet && recordsInRange (t .records) (t .n))) ∷
     badAssignment (t .records) (t .n) ∷
     badRegions (t .records) (t .n) own catalogue ∷
-    (JitterInEditionOne, anyJitter (t .records) (t .n)) ∷
-    noRoom room (fileLength (t .n) (length own)) ∷ []
+    (JitterInEditionOne, eqb e 1 && anyJitter (t .records) (t .n)) ∷
+    noRoom room (fileLength e (t .n) (length own)) ∷ []
 
 -- Response times ask 5, 9, 10, 14
 abbrev pub timesAsks : Table → Asks

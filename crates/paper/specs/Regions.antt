@@ -6,6 +6,7 @@ use lib.Dec.{leb, ltb, eqb}
 use lib.ListN.{getD, length, take, drop}
 use Rattle.paper.specs.Vocabulary.{every, sumTo}
 use Rattle.paper.specs.Numbers.{ticksInRange, rec}
+use Rattle.paper.specs.File.{recordSize}
 use Rattle.paper.specs.declared.Source.{Source}
 use Rattle.paper.specs.declared.Source.the-variants.{Own, Catalogue}
 use Rattle.paper.specs.declared.Record.{Record}
@@ -48,9 +49,10 @@ module _ {A : Type 0} where
 abbrev pub noPart : Part
 noPart = record { from = 0; count = 0 }
 
--- The record asked for comes back as the twelve bytes of the caller's own file: record number k, counted from 1
-abbrev pub recordPart : ℕ → Part
-recordPart k = record { from = 8 + 12 * (k - 1); count = 12 }
+-- The record asked for, number k counted from 1, comes back as the twelve bytes of the caller's own file, never a copy;
+-- as fifteen bytes in edition 2 (document 02, item 9), where each stands behind others of that size
+abbrev pub recordPart : ℕ → ℕ → Part
+recordPart e k = record { from = 8 + recordSize e * (k - 1); count = recordSize e }
 
 -- A task's regions come back as a part of the file's region words or of the catalogue, whichever the record names
 abbrev pub regionsPart : Record → Part

@@ -24,7 +24,7 @@ pub struct Record {
     pub first: u32,
     pub count: u32,
     pub name: u32,
-    // By how many ticks the task may be asked for late, J, from 0 to the period less 1 (document 02, item 8).
+    // By up to how many ticks its releases come late, J, from 0 to the period less 1 (document 02, item 8).
     pub jitter: u32,
 }
 
@@ -71,6 +71,7 @@ pub enum Refusal {
     ToleranceBelowZero(usize),
     BadRow,
     BlankPlate,
+    // A table with a jitter was to be written as edition 1, which has no place for one.
     JitterInEditionOne,
 }
 
@@ -79,9 +80,11 @@ pub enum Outcome {
     Refused(Refusal),
 }
 
-// Reading: the table, and how many region words stand at the front of the output. On a refusal both are zero.
+// Reading: the file's edition, which its writer has to be told to write the same bytes again, the table, and how many region
+// words stand at the front of the output. On a refusal these three are zero.
 pub struct ReadAnswer {
     pub outcome: Outcome,
+    pub edition: u8,
     pub table: Table,
     pub words: usize,
 }

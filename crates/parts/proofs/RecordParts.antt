@@ -1,10 +1,10 @@
 -- Records: a record that is not turned away lies in the file, and the part cut out of the file is the one that the paper names.
 use mathlib.Core.Path.{_≡_, sym}
-use mathlib.Core.Bool.{_&&_}
+use mathlib.Core.Bool.{Bool, true, false, cond, _&&_}
 use mathlib.Core.List.{List, [], _∷_}
-use Prim.Native.Nat.{ℕ, _+_, _-_, _*_, _≤_}
+use Prim.Native.Nat.{ℕ, _+_, _-_, _*_, _/_, _≤_}
 use native.Mathlib.Omega.{arith}
-use lib.Dec.{leb}
+use lib.Dec.{leb, eqb}
 use lib.ListN.{length}
 use denote.Ref.{RefT, now}
 use Rattle.paper.specs.declared.Refusal.{Refusal}
@@ -12,7 +12,7 @@ use Rattle.paper.specs.declared.Refusal.the-variants.{NoSuchPart}
 use Rattle.paper.specs.declared.Outcome.{Outcome}
 use Rattle.paper.specs.declared.Outcome.the-variants.{Done, Refused}
 use Rattle.paper.specs.Numbers.{mostTasks}
-use Rattle.paper.specs.File.{tasksIn}
+use Rattle.paper.specs.File.{editionIn, tasksIn, wordsIn, recordSize}
 use Rattle.paper.specs.Regions.{noPart, recordPart}
 use Rattle.paper.specs.Refusals.{firstOf, noSuchRecord, fileAsks}
 use Rattle.paper.specs.Answers.{recordOutcome}
@@ -33,16 +33,22 @@ module _ (f : List ℕ) (cabinet line : ℕ) (catalogue : List ℕ) (number : �
 pub record InFile (f : List ℕ) (number : ℕ) : Type 0 where
   pub low : 1 ≤ number
   pub high : number ≤ mostTasks
-  pub inside : 8 + 12 * (number - 1) + 12 ≤ length f
+  pub long : 8 ≤ length f
+  pub inside : 8 + recordSize (editionIn f) * (number - 1) + recordSize (editionIn f) ≤ length f
 
 pub in-file : (f : List ℕ) (cabinet line : ℕ) (catalogue : List ℕ) (number : ℕ) → Done ≡ recordOutcome f cabinet line catalogue number → InFile f number
 in-file f cabinet line catalogue number e =
     let p = first-done (fileAsks f cabinet line catalogue) (noSuchRecord number (tasksIn f) ∷ []) (sym e) in
     let l = file-says f cabinet line catalogue (p .0) in
     let n = within 1 (tasksIn f) number (met (leb 1 number && leb number (tasksIn f)) NoSuchPart Done (p .1) .0) in
-    let size = l .size in
     let few = l .few-tasks in
-    record { low = n .0; high = omega arith; inside = omega arith }
+    record { low = n .0; high = omega arith; long = omega (arith, l .long); inside = inside (eqb (editionIn f) 2) (l .size) (n .0) (n .1) }
+  where
+    -- in either edition
+    inside : (two : Bool) → length f ≡ 8 + cond two 15 12 * tasksIn f + (20 * wordsIn f + 7) / 8 + 2 → 1 ≤ number → number ≤ tasksIn f
+        → 8 + cond two 15 12 * (number - 1) + cond two 15 12 ≤ length f
+    inside true size low high = omega arith
+    inside false size low high = omega arith
 
 module _ (file : RefT (List ℕ)) (cabinet line : ℕ) (catalogue : List ℕ) (number : ℕ) (r : RefT (List ℕ)) where
   abbrev o : Outcome
@@ -51,5 +57,5 @@ module _ (file : RefT (List ℕ)) (cabinet line : ℕ) (catalogue : List ℕ) (n
   pub record-refused : (x : Refusal) → Refused x ≡ o → IsPart file 1 noPart r → IsRecord file cabinet line catalogue number r
   record-refused x e cut = record { bytes = rw (← e) (cut .contents); place = rw (← e) (cut .place) }
 
-  pub record-done : Done ≡ o → IsPart file 1 (recordPart number) r → IsRecord file cabinet line catalogue number r
+  pub record-done : Done ≡ o → IsPart file 1 (recordPart (editionIn (now file)) number) r → IsRecord file cabinet line catalogue number r
   record-done e cut = record { bytes = rw (← e) (cut .contents); place = rw (← e) (cut .place) }

@@ -242,8 +242,10 @@ fn record_for<'a>(
     match outcome {
         Outcome::Refused(_) => bytes_from(file, 0, 0),
         Outcome::Done => {
-            let from = layout::HEAD_BYTES + layout::RECORD_BYTES * (number - 1);
-            bytes_from(file, from, layout::RECORD_BYTES)
+            let edition = layout::edition_of(file);
+            let from = layout::record_from(edition, number - 1);
+            let count = layout::record_size(edition);
+            bytes_from(file, from, count)
         }
     }
 }

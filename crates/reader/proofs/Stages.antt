@@ -1,5 +1,5 @@
 -- The stages of reading: what each asks is the paper's list, and together they are all of it and the answer.
-use mathlib.Core.Path.{_≡_, refl, sym, ap, _∙_}
+use mathlib.Core.Path.{_≡_, refl, sym, ap, ap₂, _∙_}
 use mathlib.Core.Bool.{Bool, true, false, not, _||_}
 use mathlib.Core.List.{List, [], _∷_, _++_}
 use Prim.Native.Nat.{ℕ, _-_, _≤_}
@@ -8,7 +8,7 @@ use borrow.Author.Tests.{ltb-false, eqb-true, not-false, eq-eqb, ne-eqb, le-ltb}
 use lib.Dec.{eqb}
 use lib.ListN.{length, drop}
 use Rattle.paper.specs.Numbers.{mostWords}
-use Rattle.paper.specs.File.{tasksIn, wordsIn, fileLength, sealed, spareClear, recordsIn, regionWords}
+use Rattle.paper.specs.File.{editionIn, tasksIn, wordsIn, fileLength, sealed, spareClear, tableIn, recordsIn, ownWords}
 use Rattle.paper.specs.Refusals.{Asks, firstOf, blank, outOfRange, badAssignment, badRegions, noRoom, fileAsks, readAsks}
 use Rattle.paper.specs.Answers.{noTable, tableFor, wordsFor, readAnswer, readOut}
 use Rattle.paper.specs.declared.Record.{Record}
@@ -41,57 +41,57 @@ pub either-blank : {x y cabinet line : ℕ} {a b plate : Bool} → x ≡ cabinet
 either-blank c l e f = rw (e, f, c, l)
 
 -- Asks 7 to 12, of what was unpacked.
-abbrev pub unpackedAsks : List ℕ → ℕ → ℕ → List Record → List ℕ → List ℕ → ℕ → Asks
-unpackedAsks f n m rs own catalogue room =
+abbrev pub unpackedAsks : List ℕ → ℕ → ℕ → ℕ → List Record → List ℕ → List ℕ → ℕ → Asks
+unpackedAsks f e n m rs own catalogue room =
     (WrongSeal, not (sealed f (length f - 2))) ∷
-    (SpareBitSet, not (spareClear f n m)) ∷
+    (SpareBitSet, not (spareClear f e n m)) ∷
     outOfRange rs n ∷ badAssignment rs n ∷ badRegions rs n own catalogue ∷ noRoom room m ∷ []
 
-pub body-asked : (f catalogue : List ℕ) (room : ℕ) {n m : ℕ} {rs : List Record} {own : List ℕ} {x : Outcome} → Unpacked f n m rs own
-    → x ≡ firstOf (unpackedAsks f n m rs own catalogue room) → x ≡ firstOf (bodyAsks f catalogue room)
-body-asked f catalogue room u e = e ∙ rw (u .records, u .regions, u .tasks, u .words)
+pub body-asked : (f catalogue : List ℕ) (room : ℕ) {e n m : ℕ} {rs : List Record} {own : List ℕ} {x : Outcome} → Unpacked f e n m rs own
+    → x ≡ firstOf (unpackedAsks f e n m rs own catalogue room) → x ≡ firstOf (bodyAsks f catalogue room)
+body-asked f catalogue room u q = q ∙ rw (u .records, u .regions, u .edition, u .tasks, u .words)
 
 -- What was unpacked: the own words are few enough to be asked.
-pub own-few : {f : List ℕ} {n m : ℕ} {rs : List Record} {own : List ℕ} → Unpacked f n m rs own → length own ≤ mostWords
-own-few {f} {n} {m} u = rw (u .regions, words-length f n m) (u .sized .words)
+pub own-few : {f : List ℕ} {e n m : ℕ} {rs : List Record} {own : List ℕ} → Unpacked f e n m rs own → length own ≤ mostWords
+own-few {f} {e} {n} {m} u = rw (u .regions, words-length f e n m) (u .sized .words)
 
 -- Once the head passes, the counts and the length fit.
-pub head-says : (f : List ℕ) (cabinet line : ℕ) → firstOf (headAsks f cabinet line) ≡ Done → Sized f (tasksIn f) (wordsIn f)
+pub head-says : (f : List ℕ) (cabinet line : ℕ) → firstOf (headAsks f cabinet line) ≡ Done → Sized f (editionIn f) (tasksIn f) (wordsIn f)
 head-says f cabinet line e =
     let asks = done-none (headAsks f cabinet line) e .1 .1 .1 .1 .1 in
     let counts = counts-say (tasksIn f) (wordsIn f) (not-false _ (asks .0)) in
     record {
       tasks = counts .tasks;
       words = counts .words;
-      long = eqb-true (length f) (fileLength (tasksIn f) (wordsIn f)) (not-false _ (asks .1 .0));
+      long = eqb-true (length f) (fileLength (editionIn f) (tasksIn f) (wordsIn f)) (not-false _ (asks .1 .0));
     }
 
 -- Once the rest passes, the words fit the output.
-pub room-fits : (f catalogue : List ℕ) (room : ℕ) {n m : ℕ} {rs : List Record} {own : List ℕ} {o : Outcome} → Unpacked f n m rs own
+pub room-fits : (f catalogue : List ℕ) (room : ℕ) {e n m : ℕ} {rs : List Record} {own : List ℕ} {o : Outcome} → Unpacked f e n m rs own
     → o ≡ firstOf (bodyAsks f catalogue room) → o ≡ Done → length own ≤ room
-room-fits f catalogue room {n} {m} u e k =
-    let h = ltb-false room (wordsIn f) (done-none (bodyAsks f catalogue room) (sym e ∙ k) .1 .1 .1 .1 .1 .0) in
-    rw (u .regions, words-length f n m, u .words) h
+room-fits f catalogue room {e} {n} {m} u q k =
+    let h = ltb-false room (wordsIn f) (done-none (bodyAsks f catalogue room) (sym q ∙ k) .1 .1 .1 .1 .1 .0) in
+    rw (u .regions, words-length f e n m, u .words) h
 
 -- The outcome o was found. A refusal is the whole answer, and the output stays.
 pub turned-away : (o : Outcome) (f out : List ℕ) {r : Refusal} {x : Outcome} {a : ReadAnswer} → x ≡ o → x ≡ Refused r
-    → (a .outcome ≡ Refused r) × (a .table ≡ noTable) × (a .words ≡ 0) → (a ≡ tableFor o f) × (out ≡ wordsFor o f out)
-turned-away o f out e k h = rw (← e, k) (λ i. record { outcome = h .0 i; table = h .1 i; words = h .2 i }, refl)
+    → (a .outcome ≡ Refused r) × (a .edition ≡ 0) × (a .table ≡ noTable) × (a .words ≡ 0) → (a ≡ tableFor o f) × (out ≡ wordsFor o f out)
+turned-away o f out e k h = rw (← e, k) (λ i. record { outcome = h .0 i; edition = h .1 i; table = h .2 i; words = h .3 i }, refl)
 
 -- And else what was unpacked and put is the answer.
-pub answered : (o : Outcome) (f out : List ℕ) (n m : ℕ) (t : Table) (own : List ℕ) {x : Outcome} {out' : List ℕ} → x ≡ o → x ≡ Done
-    → Unpacked f n m (t .records) own → t .n ≡ n → out' ≡ own ++ drop (length own) out
-    → (_≡_ {A = ReadAnswer} (record { outcome = Done; table = t; words = m }) (tableFor o f)) × (out' ≡ wordsFor o f out)
-answered o f out n m t own {out' = out'} e k u s h =
+pub answered : (o : Outcome) (f out : List ℕ) (e n m : ℕ) (t : Table) (own : List ℕ) {x : Outcome} {out' : List ℕ} → x ≡ o → x ≡ Done
+    → Unpacked f e n m (t .records) own → t .n ≡ n → out' ≡ own ++ drop (length own) out
+    → (_≡_ {A = ReadAnswer} (record { outcome = Done; edition = e; table = t; words = m }) (tableFor o f)) × (out' ≡ wordsFor o f out)
+answered o f out e n m t own {out' = out'} q k u s h =
     let tasks : t .n ≡ tasksIn f = s ∙ u .tasks in
-    let records : t .records ≡ recordsIn f (tasksIn f) = u .records ∙ ap (λ (k : ℕ). recordsIn f k) (u .tasks) in
-    let words : out' ≡ regionWords f (tasksIn f) (wordsIn f) ++ drop (wordsIn f) out =
-    h ∙ rw (u .regions, words-length f n m, u .tasks, u .words) in
-    rw (← e, k) (λ i. record { outcome = Done; table = record { n = tasks i; records = records i }; words = u .words i }, words)
+    let records : t .records ≡ tableIn f .records = u .records ∙ ap₂ (recordsIn f) (u .edition) (u .tasks) in
+    let words : out' ≡ ownWords f ++ drop (wordsIn f) out = h ∙ rw (u .regions, words-length f e n m, u .edition, u .tasks, u .words) in
+    rw (← q, k)
+    (λ i. record { outcome = Done; edition = u .edition i; table = record { n = tasks i; records = records i }; words = u .words i }, words)
 
 -- The head turns the file away, or the rest has the answer.
 pub read-stops : (f : List ℕ) (cabinet line : ℕ) (catalogue out : List ℕ) (r : Refusal) {o : Outcome} {a : ReadAnswer}
-    → o ≡ firstOf (headAsks f cabinet line) → o ≡ Refused r → (a .outcome ≡ Refused r) × (a .table ≡ noTable) × (a .words ≡ 0)
+    → o ≡ firstOf (headAsks f cabinet line) → o ≡ Refused r → (a .outcome ≡ Refused r) × (a .edition ≡ 0) × (a .table ≡ noTable) × (a .words ≡ 0)
     → (a ≡ readAnswer f cabinet line catalogue out) × (out ≡ readOut f cabinet line catalogue out)
 read-stops f cabinet line catalogue out r e k h =
     turned-away (firstOf (readAsks f cabinet line catalogue (length out))) f out refl

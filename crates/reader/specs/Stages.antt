@@ -3,7 +3,7 @@ use Prim.Native.Nat.{ℕ}
 use mathlib.Core.Path.{_≡_}
 use mathlib.Core.List.{List, []}
 use lib.ListN.{take, drop}
-use Rattle.paper.specs.File.{tasksIn, wordsIn, recordsIn, regionWords}
+use Rattle.paper.specs.File.{editionIn, tasksIn, wordsIn, recordsIn, regionWords}
 use Rattle.paper.specs.Refusals.{Asks, fileAsks, readAsks}
 use Rattle.paper.specs.declared.Record.{Record}
 use Rattle.unpack.specs.Unpack.{Sized}
@@ -16,10 +16,11 @@ headAsks f cabinet line = take 7 (fileAsks f cabinet line [])
 abbrev pub bodyAsks : List ℕ → List ℕ → ℕ → Asks
 bodyAsks f catalogue room = drop 7 (readAsks f 0 0 catalogue room)
 
--- what was unpacked of the file f: its counts, its records and its own region words
-pub record Unpacked (f : List ℕ) (n m : ℕ) (rs : List Record) (own : List ℕ) : Type 0 where
-  pub sized : Sized f n m
+-- what was unpacked of the file f: its edition, its counts, its records and its own region words
+pub record Unpacked (f : List ℕ) (e n m : ℕ) (rs : List Record) (own : List ℕ) : Type 0 where
+  pub sized : Sized f e n m
+  pub edition : e ≡ editionIn f
   pub tasks : n ≡ tasksIn f
   pub words : m ≡ wordsIn f
-  pub records : rs ≡ recordsIn f n
-  pub regions : own ≡ regionWords f n m
+  pub records : rs ≡ recordsIn f e n
+  pub regions : own ≡ regionWords f e n m

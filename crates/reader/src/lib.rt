@@ -3,7 +3,7 @@ ghost use mathlib.Core.Path.{_≡_};
 ghost use mathlib.Core.List.{_++_};
 ghost use Prim.Native.Nat.{_≤_};
 ghost use lib.ListN.{length, drop};
-ghost use Rattle.paper.specs.File.{tasksIn, wordsIn};
+ghost use Rattle.paper.specs.File.{editionIn, tasksIn, wordsIn};
 ghost use Rattle.paper.specs.Refusals.{firstOf, fileAsks};
 ghost use Rattle.paper.specs.Answers.{noTable, tableFor, wordsFor, readAnswer, readOut};
 ghost use Rattle.paper.specs.declared.Outcome.the-variants.{Refused};
@@ -24,7 +24,7 @@ fn head(file: &[u8], cabinet: Cabinet, line: Line) -> Outcome
         return Outcome::Refused(Refusal::Short);
     }
     let edition = layout::edition_of(file);
-    if edition != layout::EDITION {
+    if !layout::is_edition(edition) {
         return Outcome::Refused(Refusal::WrongEdition);
     }
     let its_cabinet = layout::cabinet_of(file);
@@ -47,7 +47,7 @@ fn head(file: &[u8], cabinet: Cabinet, line: Line) -> Outcome
     if !checks::counts_in_range(n, m) {
         return Outcome::Refused(Refusal::WrongCounts);
     }
-    if file.len() != layout::file_length(n, m) {
+    if file.len() != layout::file_length(edition, n, m) {
         return Outcome::Refused(Refusal::WrongLength);
     }
     Outcome::Done
@@ -56,6 +56,7 @@ fn head(file: &[u8], cabinet: Cabinet, line: Line) -> Outcome
 // Asks 7 to 12, of what was unpacked.
 fn body(
     file: &[u8],
+    edition: u8,
     n: usize,
     m: usize,
     rs: [Record; paper::MOST_TASKS],
@@ -63,14 +64,14 @@ fn body(
     catalogue: &[u32],
     room: usize,
 ) -> Outcome
-    requires { ⌜ Unpacked (now file) n m rs (now own) ⌝ }
+    requires { ⌜ Unpacked (now file) edition n m rs (now own) ⌝ }
     ensures { λ x. ⌜ x ≡ firstOf (bodyAsks (now (file .entry)) (now (catalogue .entry)) room) ⌝ }
 {
     let end = file.len() - layout::SEAL_BYTES;
     if !seal::is_sealed(file, end) {
         return Outcome::Refused(Refusal::WrongSeal);
     }
-    if !unpack::spare_clear(file, n, m) {
+    if !unpack::spare_clear(file, edition, n, m) {
         return Outcome::Refused(Refusal::SpareBitSet);
     }
     if !checks::records_in_range(rs, n) {
@@ -89,11 +90,12 @@ fn body(
 }
 
 fn refused(r: Refusal) -> ReadAnswer
-    ensures { λ x. ⌜ (x .outcome ≡ Refused r) × (x .table ≡ noTable) × (x .words ≡ 0) ⌝ }
+    ensures { λ x. ⌜ (x .outcome ≡ Refused r) × (x .edition ≡ 0) × (x .table ≡ noTable) × (x .words ≡ 0) ⌝ }
 {
     let t = unpack::no_table();
     ReadAnswer {
         outcome: Outcome::Refused(r),
+        edition: 0,
         table: t,
         words: 0,
     }
@@ -113,23 +115,25 @@ fn put_words(out: &mut [u32], ws: &[u32])
 
 // After the head: all is unpacked once and asked, and only then is the output written.
 fn rest(file: &[u8], catalogue: &[u32], out: &mut [u32]) -> ReadAnswer
-    requires { ⌜ Sized (now file) (tasksIn (now file)) (wordsIn (now file)) ⌝ }
+    requires { ⌜ Sized (now file) (editionIn (now file)) (tasksIn (now file)) (wordsIn (now file)) ⌝ }
     ensures { λ r. ⌜ r ≡ tableFor (firstOf (bodyAsks (now (file .entry)) (now (catalogue .entry)) (length (now (out .entry))))) (now (file .entry)) ⌝ }
     ensures { λ _. ⌜ now (out .exit) ≡ wordsFor (firstOf (bodyAsks (now (file .entry)) (now (catalogue .entry)) (length (now (out .entry))))) (now (file .entry)) (now (out .entry)) ⌝ }
 {
+    let edition = layout::edition_of(file);
     let n = layout::task_count(file);
     let m = layout::word_count(file);
-    let t = unpack::table_in(file, n);
+    let t = unpack::table_in(file, edition, n);
     let rs = t.records;
-    let ws = unpack::words_in(file, n, m);
+    let ws = unpack::words_in(file, edition, n, m);
     let room = out.len();
-    let outcome = body(file, n, m, rs, &ws[..m], catalogue, room);
+    let outcome = body(file, edition, n, m, rs, &ws[..m], catalogue, room);
     match outcome {
         Outcome::Refused(r) => refused(r),
         Outcome::Done => {
             put_words(out, &ws[..m]);
             ReadAnswer {
                 outcome: Outcome::Done,
+                edition,
                 table: t,
                 words: m,
             }
@@ -137,7 +141,7 @@ fn rest(file: &[u8], catalogue: &[u32], out: &mut [u32]) -> ReadAnswer
     }
 }
 
-// The file, read for the cabinet and the line on the plate: its table, and its region words in the output.
+// The file, read for the cabinet and the line on the plate: its edition, its table, and its region words in the output.
 pub fn read(
     file: &[u8],
     cabinet: Cabinet,

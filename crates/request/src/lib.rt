@@ -130,6 +130,18 @@ pub fn line_at(s: &[u8], at: usize) -> Line
     Line(two_at(s, at) as u16)
 }
 
+// The edition to be written, which is a body's first byte, and the pieces behind it.
+pub fn edition_of(s: &[u8]) -> u8 {
+    byte_at(s, 0) as u8
+}
+
+pub fn behind_edition(s: &[u8]) -> &[u8] {
+    if s.len() == 0 {
+        return s;
+    }
+    &s[1..]
+}
+
 // A cabinet as it stands on a plate, in three bytes.
 pub fn plate_cabinet(s: &[u8]) -> Cabinet {
     let a = byte_at(s, 0);
@@ -209,6 +221,7 @@ fn end_of(kind: u8, s: &[u8]) -> usize {
         8 => bytes_end(s, 2 + TABLE_BYTES),
         10 => words_end(s, words_end(s, 2 + TABLE_BYTES)),
         11 => bytes_end(s, bytes_end(s, 2)),
+        14 => words_end(s, words_end(s, 1 + 8 + TABLE_BYTES)),
         _ => NOWHERE,
     }
 }

@@ -37,16 +37,17 @@ fn first_outside(file: &[u8], catalogue: &[u32]) -> usize {
     if file.len() < layout::SHORTEST {
         return 0;
     }
+    let edition = layout::edition_of(file);
     let n = layout::task_count(file);
     if MOST_TASKS < n {
         return 0;
     }
-    if file.len() < layout::HEAD_BYTES + layout::RECORD_BYTES * n {
+    if file.len() < layout::record_from(edition, n) {
         return 0;
     }
-    let t = unpack::table_in(file, n);
+    let t = unpack::table_in(file, edition, n);
     let rs = t.records;
-    show_facts::first_outside(rs, n, catalogue.len())
+    first_jobs::first_outside(rs, n, catalogue.len())
 }
 
 fn put_outside(buf: &mut [u8], at: usize, job: usize, words: usize) -> usize
@@ -86,6 +87,17 @@ fn put_refused(buf: &mut [u8], at: usize, r: Refusal, file: &[u8], catalogue: &[
     }
 }
 
+// Edition 1 isn't said: its sheets stay as they were.
+fn put_edition(buf: &mut [u8], at: usize, edition: u8) -> usize
+    requires { ⌜ at ≤ length (now buf) ⌝ }
+    ensures { λ r. ⌜ r ≤ length (now (buf .entry)) ⌝ }
+{
+    if edition == layout::EDITION_ONE {
+        return at;
+    }
+    say::count(buf, at, b", edition", edition as u64)
+}
+
 fn put_jobs(buf: &mut [u8], at: usize, t: Table) -> usize
     requires { ⌜ at ≤ length (now buf) ⌝ }
     ensures { λ r. ⌜ r ≤ length (now (buf .entry)) ⌝ }
@@ -119,9 +131,10 @@ fn put_file<'a>(
         Outcome::Done => {
             let t = answer.table;
             let rs = t.records;
-            unnamed::tell(rs, show_facts::jobs_of(t), cabinet_names, house_names);
+            unnamed::tell(rs, first_jobs::jobs_of(t), cabinet_names, house_names);
             let m = fronts::of_words(&words, answer.words);
-            let start = put_jobs(buf, plated, t);
+            let said = put_edition(buf, plated, answer.edition);
+            let start = put_jobs(buf, said, t);
             show_sheet::put_sheet(
                 buf,
                 start,

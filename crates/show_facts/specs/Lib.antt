@@ -1,3 +1,1 @@
-pub mod Sheet
-pub mod WorstJobs
-pub mod Asked
+pub mod Facts

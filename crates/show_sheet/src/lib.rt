@@ -1,5 +1,5 @@
 // The table of jobs, the worst jobs of their active periods, what could not be told, and the verdict, in words. What they say is
-// what `show_facts` promises.
+// what `show_cells`, `worst_jobs` and `verdicts` promise.
 mod names;
 
 ghost use Prim.Native.Nat.{_≤_, _<_};
@@ -8,14 +8,14 @@ ghost use Rattle.paper.specs.Numbers.{mostTasks};
 use cells::Cell;
 use paper::Refusal;
 use paper::Table;
-use show_facts::COLUMNS;
-use show_facts::Deadlines;
+use show_cells::COLUMNS;
+use show_cells::JITTERS;
 use show_facts::Facts;
-use show_facts::Fit;
-use show_facts::JITTERS;
-use show_facts::Note;
-use show_facts::Verdict;
-use show_facts::Worst;
+use verdicts::Deadlines;
+use verdicts::Fit;
+use verdicts::Note;
+use verdicts::Verdict;
+use worst_jobs::Worst;
 
 // Behind the columns of numbers stands the width of the names.
 const NAMES: usize = COLUMNS;
@@ -66,7 +66,7 @@ fn width<'a>(f: Facts, k: usize, column: usize, cabinet: &'a [u8], house: &'a [u
     if column == NAMES {
         return names::width(name_number(f.table, k), cabinet, house);
     }
-    cells::width_of(show_facts::cell(f, k, column))
+    cells::width_of(show_cells::cell(f, k, column))
 }
 
 // As wide as its heading and the widest of its n jobs.
@@ -100,14 +100,14 @@ fn put_column(buf: &mut [u8], at: usize, f: Facts, row: usize, column: usize, wi
     requires { ⌜ row ≤ mostTasks ⌝ }
     ensures { λ r. ⌜ r ≤ length (now (buf .entry)) ⌝ }
 {
-    if !show_facts::column_stands(f, column) {
+    if !show_cells::column_stands(f, column) {
         return at;
     }
     let start = cells::space(buf, at);
     if row == 0 {
         return put_heading(buf, start, column, width);
     }
-    cells::put_cell(buf, start, show_facts::cell(f, row - 1, column), width)
+    cells::put_cell(buf, start, show_cells::cell(f, row - 1, column), width)
 }
 
 fn put_columns(buf: &mut [u8], at: usize, f: Facts, row: usize, widths: [usize; WIDTHS]) -> usize
@@ -293,7 +293,7 @@ fn put_worsts(buf: &mut [u8], at: usize, f: Facts, n: usize) -> usize
     let mut end = at;
     let mut k: usize = 0;
     while k < n {
-        end = put_worst(buf, end, k + 1, show_facts::worst_at(f, k));
+        end = put_worst(buf, end, k + 1, worst_jobs::worst_at(f, k));
         k += 1;
     }
     end
@@ -399,8 +399,8 @@ fn put_end(buf: &mut [u8], at: usize, f: Facts, n: usize) -> usize
 {
     let parted = say::newline(buf, at);
     let told = put_worsts(buf, parted, f, n);
-    let noted = put_note(buf, told, show_facts::note_of(f));
-    put_verdict(buf, noted, show_facts::verdict_of(f))
+    let noted = put_note(buf, told, verdicts::note_of(f));
+    put_verdict(buf, noted, verdicts::verdict_of(f))
 }
 
 pub fn put_sheet<'a, 'b>(
@@ -415,7 +415,7 @@ pub fn put_sheet<'a, 'b>(
     requires { ⌜ at ≤ length (now buf) ⌝ }
     ensures { λ r. ⌜ r ≤ length (now (buf .entry)) ⌝ }
 {
-    let n = show_facts::jobs_of(t);
+    let n = first_jobs::jobs_of(t);
     let f = show_facts::facts_of(t, own, catalogue);
     let widths = widths_of(f, n, cabinet, house);
     let headed = put_headings(buf, at, f, widths);

@@ -1,9 +1,9 @@
--- Each number of a table that the writer takes fits its field.
+-- Each number of a table that the writer takes fits its field, in the edition e that it is written as.
 use Prim.{tt}
 use mathlib.Core.Path.{_≡_, refl}
 use mathlib.Core.Logic.{_⊎_, inl, inr, ⊎-elim}
-use mathlib.Core.Bool.{Bool, true, false, _&&_, _||_}
-use mathlib.Core.List.{List}
+use mathlib.Core.Bool.{Bool, true, false, cond, _&&_, _||_}
+use mathlib.Core.List.{List, [], _∷_}
 use Prim.Native.Nat.{ℕ, _+_, _^_, _≤_, _<_}
 use native.Mathlib.Nat.{zero-add}
 use native.Mathlib.Omega.{arith}
@@ -12,7 +12,7 @@ use lib.Dec.{leb, eqb}
 use lib.ListN.{length, getD}
 use Rattle.paper.specs.Numbers.{mostTasks, mostName, mostTicks, rec, ticksInRange, recordInRange, eachOnce, thresholdsHold, assigned, unassigned, assignmentHolds}
 use Rattle.paper.specs.Regions.{listOf, wordsInRange, wordsSum, regionsHold, recordRegionsHold, allRegionsHold}
-use Rattle.paper.specs.File.{recordWidths, recordValues, sourceBit}
+use Rattle.paper.specs.File.{isEdition, recordWidths, recordValues, sourceBit}
 use Rattle.paper.specs.declared.Source.{Source}
 use Rattle.paper.specs.declared.Source.the-variants.{Own, Catalogue}
 use Rattle.paper.specs.declared.Record.{Record}
@@ -21,6 +21,8 @@ use Rattle.paper.proofs.Tests.{both, _and_, within, every-says}
 use Rattle.bits.specs.Fields.{AllFit}
 use Rattle.paper.proofs.Formed.{each-once-range, threshold-range}
 use Rattle.paper.proofs.Writing.{Taken}
+use Rattle.paper.proofs.Editions.{edition-says}
+use Rattle.paper.proofs.Jitters.{jitter-says}
 use Rattle.trips.proofs.Made.{Fits}
 
 ticks-fit : (x : ℕ) → ticksInRange x ≡ true → x < 2 ^ 20
@@ -81,14 +83,15 @@ regions-say n rs own catalogue e =
       each = every-says n (λ k. recordRegionsHold own catalogue (rec rs k)) (b .1);
     }
 
-record-fits : (r : Record) → recordInRange r ≡ true → Levels r → Named r → AllFit recordWidths (recordValues r)
-record-fits r e v d =
-    let a = both _ _ e in
+record-fits : (e : ℕ) (r : Record) → recordInRange r ≡ true → Levels r → Named r → AllFit (recordWidths e) (recordValues e r)
+record-fits e r h v d =
+    let a = both _ _ h in
     let b = both _ _ (a .1) in
     let c = both _ _ (b .1) in
     let x : r .name ≤ mostName = leb-true _ _ (both _ _ (c .1) .0) in
+    let period-fits = ticks-fit (r .period) (b .0) in
     ticks-fit _ (a .0)
-    and ticks-fit _ (b .0)
+    and period-fits
     and ticks-fit _ (c .0)
     and v .priority
     and v .threshold
@@ -96,19 +99,28 @@ record-fits r e v d =
     and d .first
     and d .count
     and omega arith
-    and omega arith
-    and tt
+    and last-fits (eqb e 2) (omega (arith, jitter-says r h, period-fits))
+  where
+    -- spare, or J and spare
+    last-fits : (two : Bool) → r .jitter < 2 ^ 20 → AllFit (cond two (20 ∷ 10 ∷ []) (6 ∷ [])) (cond two (r .jitter ∷ 0 ∷ []) (0 ∷ []))
+    last-fits true j = j and omega arith and tt
+    last-fits false j = omega arith and tt
 
-pub taken-fits : (t : Table) (cabinet line : ℕ) (own catalogue : List ℕ) (room : ℕ) → Taken t cabinet line own catalogue room → line < 2 ^ 16 → Fits t cabinet line own
-taken-fits t cabinet line own catalogue room w l =
+edition-fit : (e : ℕ) → isEdition e ≡ true → e < 2 ^ 4
+edition-fit e h = ⊎-elim (λ (i : e ≡ 1). omega arith) (λ (i : e ≡ 2). omega arith) (edition-says e h)
+
+pub taken-fits : (e : ℕ) (t : Table) (cabinet line : ℕ) (own catalogue : List ℕ) (room : ℕ) → Taken e t cabinet line own catalogue room → line < 2 ^ 16
+    → Fits e t cabinet line own
+taken-fits e t cabinet line own catalogue room w l =
     let h = regions-say (t .n) (t .records) own catalogue (w .regions) in
     record {
+      edition-fits = edition-fit e (w .edition);
       tasks = w .few-tasks;
       many = w .few-words;
       cabinet-fits = omega (arith, w .cabinets);
       line-fits = l;
       records-fit = λ k i.
-          record-fits (rec (t .records) k) (every-says (t .n) (λ j. recordInRange (rec (t .records) j)) (w .ranges) k i)
+          record-fits e (rec (t .records) k) (every-says (t .n) (λ j. recordInRange (rec (t .records) j)) (w .ranges) k i)
           (levels-fit (t .records) (t .n) (w .few-tasks) (w .assignment) k i) (named-fit own catalogue (rec (t .records) k) (h .each k i));
       words-fit = λ k i. ticks-fit (getD own k 0) (h .words k i) and tt;
     }

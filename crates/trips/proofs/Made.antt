@@ -1,4 +1,4 @@
--- What `fileOf` makes of a table whose numbers fit their fields is the table's file.
+-- What `fileOf` makes of a table whose numbers fit their fields in the edition e is the table's file in it.
 use Prim.{tt}
 use mathlib.Core.Path.{_≡_, refl, _∙_}
 use mathlib.Core.Logic.{inl, inr}
@@ -18,102 +18,103 @@ use Rattle.bits.proofs.Putting.{Only, only-both}
 use Rattle.bits.proofs.Fields.{fields-same, all-only, all-got}
 use Rattle.bits.proofs.Same.{zero-bytes}
 use Rattle.seal.proofs.Seal.{seal-only, seal-holds}
-use Rattle.trips.proofs.Blocks.{putBlocks, blocks-only, blocks-got}
-use Rattle.trips.proofs.One.{records, wordWidths, words, IsFile}
+use Rattle.trips.proofs.Blocks.{putBlocks, apart, blocks-only, blocks-got}
+use Rattle.trips.proofs.One.{records, wordWidths, words, next-record, next-word, IsFile}
 
 -- Records and region words are put as blocks
 
-records-blocks : (s : List ℕ) (rs : List Record) (n : ℕ) → putRecords s rs n ≡ putBlocks s 64 recordWidths (records rs) n
+records-blocks : (s : List ℕ) (e : ℕ) (rs : List Record) (n : ℕ) → putRecords s e rs n ≡ putBlocks s (recordAt e) (recordWidths e) (records e rs) n
 unfolding putRecords putBlocks
-records-blocks s rs zero = refl
-records-blocks s rs (suc n) = rw (records-blocks s rs n)
+records-blocks s e rs zero = refl
+records-blocks s e rs (suc n) = rw (records-blocks s e rs n)
 
-words-blocks : (s : List ℕ) (n : ℕ) (own : List ℕ) (m : ℕ) → putWords s n own m ≡ putBlocks s (recordAt n) wordWidths (words own) m
+words-blocks : (s : List ℕ) (e n : ℕ) (own : List ℕ) (m : ℕ) → putWords s e n own m ≡ putBlocks s (wordAt e n) wordWidths (words own) m
 unfolding putWords putBlocks putFields
-words-blocks s n own zero = refl
-words-blocks s n own (suc m) = rw (words-blocks s n own m)
+words-blocks s e n own zero = refl
+words-blocks s e n own (suc m) = rw (words-blocks s e n own m)
 
 -- each number fits the field that it is put into
-pub record Fits (t : Table) (cabinet line : ℕ) (own : List ℕ) : Type 0 where
+pub record Fits (e : ℕ) (t : Table) (cabinet line : ℕ) (own : List ℕ) : Type 0 where
+  pub edition-fits : e < 2 ^ 4
   pub tasks : t .n ≤ mostTasks
   pub many : length own ≤ mostWords
   pub cabinet-fits : cabinet < 2 ^ 24
   pub line-fits : line < 2 ^ 16
-  pub records-fit : (k : ℕ) → k < t .n → AllFit recordWidths (records (t .records) k)
+  pub records-fit : (k : ℕ) → k < t .n → AllFit (recordWidths e) (records e (t .records) k)
   pub words-fit : (k : ℕ) → k < length own → AllFit wordWidths (words own k)
 
-module _ (t : Table) (cabinet line : ℕ) (own : List ℕ) where
+module _ (e : ℕ) (t : Table) (cabinet line : ℕ) (own : List ℕ) where
   -- the file as it grows: zero bits, with the head, with the records, with the region words, with the seal
   abbrev zeros : List ℕ
-  zeros = replicate (fileLength (t .n) (length own)) 0
+  zeros = replicate (fileLength e (t .n) (length own)) 0
 
   abbrev head : List ℕ
-  head = headValues cabinet line (t .n) (length own)
+  head = headValues e cabinet line (t .n) (length own)
 
   abbrev with-head : List ℕ
   with-head = putFields zeros 0 headWidths head
 
   abbrev with-records : List ℕ
-  with-records = putBlocks with-head 64 recordWidths (records (t .records)) (t .n)
+  with-records = putBlocks with-head (recordAt e) (recordWidths e) (records e (t .records)) (t .n)
 
   abbrev with-words : List ℕ
-  with-words = putBlocks with-records (recordAt (t .n)) wordWidths (words own) (length own)
+  with-words = putBlocks with-records (wordAt e (t .n)) wordWidths (words own) (length own)
 
   abbrev end : ℕ
-  end = fileLength (t .n) (length own) - 2
+  end = fileLength e (t .n) (length own) - 2
 
   abbrev file : List ℕ
   file = putSeal with-words end
 
-  file-is : fileOf t cabinet line own ≡ file
+  file-is : fileOf e t cabinet line own ≡ file
   unfolding fileOf putHead
-  file-is = rw (records-blocks with-head (t .records) (t .n), words-blocks with-records (t .n) own (length own))
+  file-is = rw (records-blocks with-head e (t .records) (t .n), words-blocks with-records e (t .n) own (length own))
 
   -- each step changes its own bits only
   head-only : Only zeros with-head 0 64
   head-only = all-only zeros 0 headWidths head
 
-  records-only : Only with-head with-records 64 (recordAt (t .n))
-  records-only = blocks-only 64 recordWidths (records (t .records)) with-head (t .n)
+  records-only : Only with-head with-records (recordAt e 0) (recordAt e (t .n))
+  records-only = blocks-only (recordAt e) (recordWidths e) (next-record e) (records e (t .records)) with-head (t .n)
 
-  words-only : Only with-records with-words (recordAt (t .n)) (wordAt (t .n) (length own))
-  words-only = blocks-only (recordAt (t .n)) wordWidths (words own) with-records (length own)
+  words-only : Only with-records with-words (wordAt e (t .n) 0) (wordAt e (t .n) (length own))
+  words-only = blocks-only (wordAt e (t .n)) wordWidths (next-word e (t .n)) (words own) with-records (length own)
 
-  body-only : Only zeros with-words 0 (wordAt (t .n) (length own))
+  body-only : Only zeros with-words 0 (wordAt e (t .n) (length own))
   body-only =
-      let r : Only zeros with-records 0 (recordAt (t .n)) = only-both (omega arith) head-only records-only in
+      let r : Only zeros with-records 0 (recordAt e (t .n)) = only-both (omega arith) head-only records-only in
       only-both (omega arith) r words-only
 
-  body-length : length with-words ≡ fileLength (t .n) (length own)
-  body-length = body-only .size ∙ length-replicate (fileLength (t .n) (length own)) 0
+  body-length : length with-words ≡ fileLength e (t .n) (length own)
+  body-length = body-only .size ∙ length-replicate (fileLength e (t .n) (length own)) 0
 
-  pub file-length : length (fileOf t cabinet line own) ≡ fileLength (t .n) (length own)
+  pub file-length : length (fileOf e t cabinet line own) ≡ fileLength e (t .n) (length own)
   file-length = rw file-is (seal-only with-words end .size ∙ body-length)
 
   body-bytes : Bytes with-words
-  body-bytes = body-only .bytes (zero-bytes (fileLength (t .n) (length own)))
+  body-bytes = body-only .bytes (zero-bytes (fileLength e (t .n) (length own)))
 
   -- so the bits of the head, of the records and of the region words are those of the step that put them
   words-same : SameBits file with-words 0 (end * 8)
   words-same q _ l = seal-only with-words end .stays q (inl l)
 
-  records-same : SameBits file with-records 0 (recordAt (t .n))
-  records-same q a l = words-same q a (omega arith) ∙ words-only .stays q (inl l)
+  records-same : SameBits file with-records 0 (recordAt e (t .n))
+  records-same q a l = words-same q a (omega arith) ∙ words-only .stays q (inl (omega arith))
 
   head-same : SameBits file with-head 0 64
-  head-same q a l = records-same q a (omega arith) ∙ records-only .stays q (inl l)
+  head-same q a l = records-same q a (omega arith) ∙ records-only .stays q (inl (omega arith))
 
   -- past the region words nothing is put before the seal
-  filler-clear : field file (wordAt (t .n) (length own)) (fillerWidth (length own)) ≡ 0
+  filler-clear : field file (wordAt e (t .n) (length own)) (fillerWidth (length own)) ≡ 0
   filler-clear =
       let n = t .n in
       let m = length own in
-      field-same file zeros (wordAt n m) (fillerWidth m) (λ q a b. words-same q (omega arith) (omega arith) ∙ body-only .stays q (inr a))
-      ∙ field-zeros (fileLength n m) (wordAt n m) (fillerWidth m)
+      field-same file zeros (wordAt e n m) (fillerWidth m) (λ q a b. words-same q (omega arith) (omega arith) ∙ body-only .stays q (inr a))
+      ∙ field-zeros (fileLength e n m) (wordAt e n m) (fillerWidth m)
 
-  pub made : Fits t cabinet line own → IsFile t cabinet line own (fileOf t cabinet line own)
+  pub made : Fits e t cabinet line own → IsFile e t cabinet line own (fileOf e t cabinet line own)
   made f =
-      let z = length-replicate {A = ℕ} (fileLength (t .n) (length own)) 0 in
+      let z = length-replicate {A = ℕ} (fileLength e (t .n) (length own)) 0 in
       let h = head-only .size in
       let r = records-only .size in
       let w = body-length in
@@ -126,13 +127,14 @@ module _ (t : Table) (cabinet line : ℕ) (own : List ℕ) where
         head =
             fields-same file with-head 0 headWidths head-same
             ∙ all-got zeros 0 headWidths head (omega arith)
-            (omega arith and omega arith and f .cabinet-fits and f .line-fits and omega arith and omega arith and tt);
+            (f .edition-fits and omega arith and f .cabinet-fits and f .line-fits and omega arith and omega arith and tt);
         has-records = λ k l.
-            fields-same file with-records (recordAt k) recordWidths (λ q x y. records-same q (omega arith) (omega arith))
-            ∙ blocks-got 64 recordWidths (records (t .records)) with-head (t .n) (omega arith) (f .records-fit) k l;
+            let p = apart (recordAt e) (recordWidths e) (next-record e) k (t .n) l in
+            fields-same file with-records (recordAt e k) (recordWidths e) (λ q x y. records-same q (omega arith) (omega arith))
+            ∙ blocks-got (recordAt e) (recordWidths e) (next-record e) (records e (t .records)) with-head (t .n) (omega arith) (f .records-fit) k l;
         has-words = λ k l.
-            fields-same file with-words (wordAt (t .n) k) wordWidths (λ q x y. words-same q (omega arith) (omega arith))
-            ∙ blocks-got (recordAt (t .n)) wordWidths (words own) with-records (length own) (omega arith) (f .words-fit) k l;
+            fields-same file with-words (wordAt e (t .n) k) wordWidths (λ q x y. words-same q (omega arith) (omega arith))
+            ∙ blocks-got (wordAt e (t .n)) wordWidths (next-word e (t .n)) (words own) with-records (length own) (omega arith) (f .words-fit) k l;
         filler = filler-clear;
         seal = seal-holds with-words end body-bytes (omega arith);
       })

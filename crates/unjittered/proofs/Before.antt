@@ -1,22 +1,24 @@
--- The definitions as they stood before document 02, item 8, word for word: those that J has entered, and those that stand on them. What they are made of and item 8 left alone they take from `paper`.
--- `Record` and `Tasks` have a field J today, and `zeroRecord`, `recordFrom` (both with J = 0) and `tasksOf` make them with it: these are today's, as there is one type of a record. Nothing on this page reads J.
+-- The definitions as they stood before document 02, items 8 and 9, word for word: those that J and edition 2 have entered, and those that stand on them. What they are made of and these items left alone they take from `paper`.
+-- `Record` and `Tasks` have a field J today: `recordFrom` makes a record with J = 0, and `zeroRecord` (J = 0 too) and `tasksOf` are today's, as there is one type of a record. Nothing on this page reads J.
+-- `ReadAnswer` has a field `edition` today: `tableFor` makes it with 1, the one edition that there was, or with 0 on a refusal.
 use Prim.Native.Nat.{ℕ, zero, suc, _+_, _-_, _*_, _/_, max}
 use mathlib.Core.Path.{_≡_}
 use mathlib.Core.Bool.{Bool, true, false, not, _&&_, _||_}
 use mathlib.Core.List.{List, [], _∷_, _++_}
 use lib.Dec.{leb, ltb, eqb}
 use lib.IntN.{ℤ, pos, subℕ, _+ℤ_}
-use lib.ListN.{length, take, drop, replicate}
+use lib.ListN.{getD, length, take, drop, replicate}
 use lib.Signed.{ltZ}
-use Rattle.paper.specs.Vocabulary.{every, lowest, ceilDiv}
-use Rattle.paper.specs.Numbers.{mostTasks, mostName, mostCabinet, horizon, rec, perTask, ticksInRange, Assignment, assigned}
-use Rattle.paper.specs.File.{editionIn, cabinetIn, lineIn, tasksIn, wordsIn, shortest, fileLength, sealed, spareClear, recordsIn, regionWords}
-use Rattle.paper.specs.Regions.{Part, partOf, listOf, recordPart}
+use Rattle.paper.specs.Vocabulary.{listTo, every, lowest, ceilDiv}
+use Rattle.paper.specs.Numbers.{mostTasks, mostName, mostCabinet, horizon, rec, zeroRecord, perTask, ticksInRange, Assignment, assigned}
+use Rattle.paper.specs.Bits.{field, fieldsAt, putField, putFields}
+use Rattle.paper.specs.File.{headWidths, headFields, editionIn, cabinetIn, lineIn, tasksIn, wordsIn, sourceBit, sourceOf, fillerWidth, shortest, sealed, putSeal}
+use Rattle.paper.specs.Regions.{Part, partOf, listOf}
 use Rattle.paper.specs.Analysis.{Tasks, tasksOf, Standing, standing, least, load, within}
 use Rattle.paper.specs.Lengths.{largest, leastOf, regionsFit}
 use Rattle.paper.specs.Rows.{rowSize, rowAssignment, rowHolds, Later}
 use Rattle.paper.specs.Refusals.{Asks, firstOf, wrongTasks, wrongCounts, blank, badAssignment, badRegions, noRoom, noSuchRecord, isUnassigned, deadlineAbovePeriod, belowZeroAt}
-use Rattle.paper.specs.Answers.{whenDone, tableFor, wordsFor, lengthFor, fileFor, noTime, ticksFor, fitFor, partFor}
+use Rattle.paper.specs.Answers.{whenDone, noTable, lengthFor, noTime, ticksFor, fitFor, partFor}
 use Rattle.paper.specs.declared.Record.{Record}
 use Rattle.paper.specs.declared.Table.{Table}
 use Rattle.paper.specs.declared.Refusal.{Refusal}
@@ -42,6 +44,97 @@ recordInRange r = ticksInRange (r .cost) && (ticksInRange (r .period) && (ticksI
 -- Records past n are not looked at
 abbrev pub recordsInRange : List Record → ℕ → Bool
 recordsInRange rs n = every n (λ k. recordInRange (rec rs k))
+
+-- Of paper/specs/File.antt
+
+-- Head, 64 bits: edition 4 (=1), spare 4, cabinet 24, line 16, n 8, m 8
+abbrev pub headValues : ℕ → ℕ → ℕ → ℕ → List ℕ
+headValues cabinet line n m = 1 ∷ 0 ∷ cabinet ∷ line ∷ n ∷ m ∷ []
+
+-- Each record, 96 bits: C 20, T 20, D 20, priority 4, threshold 4, region source 1, first region 7 (counted from 0), region count 7, name number 7, spare 6
+abbrev pub recordBits : ℕ
+recordBits = 96
+
+abbrev pub recordWidths : List ℕ
+recordWidths = 20 ∷ 20 ∷ 20 ∷ 4 ∷ 4 ∷ 1 ∷ 7 ∷ 7 ∷ 7 ∷ 6 ∷ []
+
+abbrev pub recordValues : Record → List ℕ
+recordValues r =
+    r .cost ∷ r .period ∷ r .deadline ∷ r .priority ∷ r .threshold ∷ sourceBit (r .source) ∷ r .first ∷ r .count ∷ r .name ∷ 0 ∷ []
+
+-- record k + 1 stands after the head and k records
+abbrev pub recordAt : ℕ → ℕ
+recordAt k = 64 + recordBits * k
+
+-- what it says: its fields in that order, and the record that they make
+abbrev pub recordFields : List ℕ → ℕ → List ℕ
+recordFields f k = fieldsAt f (recordAt k) recordWidths
+
+abbrev pub recordFrom : List ℕ → Record
+recordFrom vs = record {
+  cost = getD vs 0 0;
+  period = getD vs 1 0;
+  deadline = getD vs 2 0;
+  priority = getD vs 3 0;
+  threshold = getD vs 4 0;
+  source = sourceOf (getD vs 5 0);
+  first = getD vs 6 0;
+  count = getD vs 7 0;
+  name = getD vs 8 0;
+  jitter = 0;
+}
+
+abbrev pub recordIn : List ℕ → ℕ → Record
+recordIn f k = recordFrom (recordFields f k)
+
+-- Region words, 20 bits each, after n records
+abbrev pub wordAt : ℕ → ℕ → ℕ
+wordAt n k = recordAt n + 20 * k
+
+-- Length in bytes: 8 + 12n + (20m/8 rounded up) + 2
+abbrev pub fileLength : ℕ → ℕ → ℕ
+fileLength n m = 8 + 12 * n + (20 * m + 7) / 8 + 2
+
+-- Spare and filler bits are zero
+unfoldable pub spareClear : List ℕ → ℕ → ℕ → Bool
+spareClear f n m =
+    eqb (getD (headFields f) 1 0) 0 &&
+    (every n (λ k. eqb (getD (recordFields f k) 9 0) 0) &&
+    eqb (field f (wordAt n m) (fillerWidth m)) 0)
+
+-- What a file says: its region words and, for a table, its records; the reader leaves those past n zero
+unfoldable pub regionWords : List ℕ → ℕ → ℕ → List ℕ
+regionWords f n m = listTo m (λ k. field f (wordAt n k) 20)
+
+abbrev pub recordsIn : List ℕ → ℕ → List Record
+recordsIn f n = perTask n (recordIn f) zeroRecord
+
+abbrev pub tableIn : List ℕ → Table
+tableIn f = record { n = tasksIn f; records = recordsIn f (tasksIn f) }
+
+-- What a file is made of: over zero bits the head, n records and the region words; then the seal
+unfoldable pub putRecords : List ℕ → List Record → ℕ → List ℕ
+putRecords s rs zero = s
+putRecords s rs (suc n) = putFields (putRecords s rs n) (recordAt n) recordWidths (recordValues (rec rs n))
+
+unfoldable pub putWords : List ℕ → ℕ → List ℕ → ℕ → List ℕ
+putWords s n ws zero = s
+putWords s n ws (suc m) = putField (putWords s n ws m) (wordAt n m) 20 (getD ws m 0)
+
+unfoldable pub putHead : ℕ → ℕ → ℕ → ℕ → List ℕ
+putHead cabinet line n m = putFields (replicate (fileLength n m) 0) 0 headWidths (headValues cabinet line n m)
+
+unfoldable pub fileOf : Table → ℕ → ℕ → List ℕ → List ℕ
+fileOf t cabinet line own =
+    putSeal
+    (putWords (putRecords (putHead cabinet line (t .n) (length own)) (t .records) (t .n)) (t .n) own (length own))
+    (fileLength (t .n) (length own) - 2)
+
+-- Of paper/specs/Regions.antt
+
+-- The record asked for comes back as the twelve bytes of the caller's own file: record number k, counted from 1
+abbrev pub recordPart : ℕ → Part
+recordPart k = record { from = 8 + 12 * (k - 1); count = 12 }
 
 -- Of paper/specs/Analysis.antt
 
@@ -249,6 +342,12 @@ nextAsks t given room = firstAsks t room ++ ((BadRow, not (rowHolds (t .n) given
 abbrev pub readOutcome : List ℕ → ℕ → ℕ → List ℕ → ℕ → Outcome
 readOutcome f cabinet line catalogue room = firstOf (readAsks f cabinet line catalogue room)
 
+abbrev pub tableFor : Outcome → List ℕ → ReadAnswer
+tableFor o f = record { outcome = o; edition = whenDone o 1 0; table = whenDone o (tableIn f) noTable; words = whenDone o (wordsIn f) 0 }
+
+abbrev pub wordsFor : Outcome → List ℕ → List ℕ → List ℕ
+wordsFor o f out = whenDone o (regionWords f (tasksIn f) (wordsIn f) ++ drop (wordsIn f) out) out
+
 abbrev pub readAnswer : List ℕ → ℕ → ℕ → List ℕ → List ℕ → ReadAnswer
 readAnswer f cabinet line catalogue out = tableFor (readOutcome f cabinet line catalogue (length out)) f
 
@@ -258,6 +357,10 @@ readOut f cabinet line catalogue out = wordsFor (readOutcome f cabinet line cata
 -- Writing: the file's length; and exactly its bytes at the front of the output
 abbrev pub writeOutcome : Table → ℕ → ℕ → List ℕ → List ℕ → ℕ → Outcome
 writeOutcome t cabinet line own catalogue room = firstOf (writeAsks t cabinet line own catalogue room)
+
+abbrev pub fileFor : Outcome → Table → ℕ → ℕ → List ℕ → List ℕ → List ℕ
+fileFor o t cabinet line own out =
+    whenDone o (fileOf t cabinet line own ++ drop (fileLength (t .n) (length own)) out) out
 
 abbrev pub writeAnswer : Table → ℕ → ℕ → List ℕ → List ℕ → List ℕ → WriteAnswer
 writeAnswer t cabinet line own catalogue out =

@@ -1,34 +1,37 @@
--- With every J at 0 all earlier answers stand (document 02, item 8): a theorem for each call that J has entered. Each answers what it answered by the definitions as they stood before (`Before`), refusals and lent memory included.
--- A record's regions and a name are not here: of what they ask and answer item 8 left every word alone.
+-- With every J at 0 all earlier answers stand (document 02, item 8), and what was signed off for edition 1 stands (item 9): a theorem for each call that J or edition 2 has entered. Each answers what it answered by the definitions as they stood before (`Before`), refusals and lent memory included.
+-- A record's regions and a name are not here: of what they ask and answer items 8 and 9 left every word alone.
 use Prim.Native.Nat.{ℕ, _≤_, _<_}
 use mathlib.Core.Path.{_≡_, refl, ap, ap₂, sym, _∙_}
 use mathlib.Core.Bool.{Bool, true, false, not, _&&_, cond}
-use mathlib.Core.List.{List, [], _∷_}
+use mathlib.Core.List.{List, [], _∷_, _++_}
 use mathlib.Core.Logic.{_↔_}
-use borrow.Author.Tests.{lt-ltb}
-use lib.Dec.{leb, ltb}
-use lib.ListN.{length, replicate}
+use borrow.Author.Tests.{lt-ltb, eqb-true, ne-eqb, not-false}
+use lib.Dec.{leb, ltb, eqb}
+use lib.ListN.{length, drop, replicate}
 use lib.IntN.{pos}
-use Rattle.paper.specs.Numbers.{mostTasks, mostName, rec, zeroRecord, ticksInRange, recordInRange, recordsInRange, anyJitter, Assignment, assigned}
-use Rattle.paper.specs.File.{tasksIn, recordIn, recordsIn, fileLength}
+use Rattle.paper.specs.Numbers.{mostTasks, mostName, mostCabinet, rec, zeroRecord, ticksInRange, recordInRange, recordsInRange, anyJitter, Assignment, assigned}
+use Rattle.paper.specs.File.{editionIn, tasksIn, wordsIn}
+use Rattle.paper.specs.Regions.{partOf}
 use Rattle.paper.specs.Analysis.{Tasks, tasksOf, standing}
 use Rattle.paper.specs.Rows.{rowAssignment, Passing, Ended}
-use Rattle.paper.specs.Refusals.{Asks, firstOf, toleranceOverNone, wrongTasks, wrongCounts, badAssignment, badRegions, isUnassigned, deadlineAbovePeriod, belowZeroAt, timesAsks, tolerancesAsks, lengthsAsks, fitAsks}
-use Rattle.paper.specs.Answers.{whenDone, noTime, fitFor, tableFor, wordsFor, lengthFor, fileFor, readOutcome, readAnswer, readOut, writeOutcome, writeAnswer, writeOut, timesAnswer, tolerancesAnswer, lengthsAnswer, fitAnswer, Lists, Says, FirstSays, NextSays, recordOutcome, recordPlace, recordBytes}
+use Rattle.paper.specs.Refusals.{Asks, firstOf, blank, toleranceOverNone, wrongTasks, wrongCounts, badAssignment, badRegions, noRoom, noSuchRecord, isUnassigned, deadlineAbovePeriod, belowZeroAt, fileAsks, timesAsks, tolerancesAsks, lengthsAsks, fitAsks}
+use Rattle.paper.specs.Answers.{whenDone, noTime, fitFor, partFor, tableFor, lengthFor, readOutcome, readAnswer, readOut, writeOutcome, writeAnswer, writeOut, timesAnswer, tolerancesAnswer, lengthsAnswer, fitAnswer, Lists, Says, FirstSays, NextSays, recordOutcome, recordPlace, recordBytes}
 use Rattle.paper.specs.declared.Record.{Record}
 use Rattle.paper.specs.declared.Table.{Table}
 use Rattle.paper.specs.declared.Refusal.{Refusal}
-use Rattle.paper.specs.declared.Refusal.the-variants.{OutOfRange}
+use Rattle.paper.specs.declared.Refusal.the-variants.{OutOfRange, BlankPlate, JitterInEditionOne}
 use Rattle.paper.specs.declared.Outcome.{Outcome}
 use Rattle.paper.specs.declared.Outcome.the-variants.{Done, Refused}
 use Rattle.paper.specs.declared.RowAnswer.{RowAnswer}
 use Rattle.paper.specs.declared.RowAnswer.the-variants as Row
 use Rattle.paper.proofs.Tests.{every-says, within}
+use Rattle.paper.proofs.Asks.{done-none}
 use Rattle.paper.proofs.Jitters.{all-still}
 use Rattle.laws.proofs.Every.{every-same}
 use Rattle.laws.proofs.Lists.{per-task-same, per-task-at}
 use Rattle.columns.proofs.Tables.{record-says}
 use Rattle.unjittered.proofs.Before as Was
+use Rattle.unjittered.proofs.Editions.{edition-stands, file-length-stands, record-part-stands, records-in-stand, region-words-stand, spare-clear-stands, file-stands}
 use Rattle.unjittered.proofs.Stands.{with-job-stands, passes-stand, tolerance-stands, length-stands, fit-stands, none-stands, lowest-stands}
 
 -- the range of J asks nothing where J is 0: a period in range is above 0
@@ -58,25 +61,80 @@ behind true b r s x z h = refl
 behind false true r s x z h = h refl
 behind false false r s x z h = refl
 
--- Reading, and handing back a record, whatever the file: one of edition 1 reads as J = 0
-module _ (f : List ℕ) (cabinet line : ℕ) (catalogue : List ℕ) where
-  file-range : recordsInRange (recordsIn f (tasksIn f)) (tasksIn f) ≡ Was.recordsInRange (recordsIn f (tasksIn f)) (tasksIn f)
-  file-range = ranges-stand (recordsIn f (tasksIn f)) (tasksIn f) (λ k l. ap (λ (r : Record). r .jitter) (per-task-at (tasksIn f) (recordIn f) zeroRecord zeroRecord k l))
+-- Reading, and handing back a record: whatever the file, if it doesn't say edition 2
+module _ (f : List ℕ) (other : editionIn f ≡ 2 → ⊥) (cabinet line : ℕ) (catalogue : List ℕ) where
+  abbrev e : ℕ
+  e = editionIn f
+
+  abbrev n : ℕ
+  n = tasksIn f
+
+  abbrev m : ℕ
+  m = wordsIn f
+
+  not-2 : eqb e 2 ≡ false
+  not-2 = ne-eqb e 2 other
+
+  -- such a file reads as J = 0
+  file-range : recordsInRange (Was.recordsIn f n) n ≡ Was.recordsInRange (Was.recordsIn f n) n
+  file-range = ranges-stand (Was.recordsIn f n) n (λ k l. ap (λ (r : Record). r .jitter) (per-task-at n (Was.recordIn f) zeroRecord zeroRecord k l))
+
+  asks-stand : fileAsks f cabinet line catalogue ≡ Was.fileAsks f cabinet line catalogue
+  asks-stand = rw (
+    edition-stands e not-2,
+    file-length-stands e not-2 n m,
+    spare-clear-stands e not-2 f n m,
+    records-in-stand e not-2 f n,
+    region-words-stand e not-2 f n m,
+    file-range,
+  )
+
+  -- a file that is read is of edition 1
+  table-stands : (o : Outcome) → (o ≡ Done → e ≡ 1) → tableFor o f ≡ Was.tableFor o f
+  table-stands Done one = ap₂ (λ v rs. record { outcome = Done; edition = v; table = record { n = n; records = rs }; words = m }) (one refl) (records-in-stand e not-2 f n)
+  table-stands (Refused r) one = refl
 
   pub read-stands : (out : List ℕ) → (readAnswer f cabinet line catalogue out ≡ Was.readAnswer f cabinet line catalogue out)
       × (readOut f cabinet line catalogue out ≡ Was.readOut f cabinet line catalogue out)
-  read-stands out = (ap (λ o. tableFor o f) same, ap (λ o. wordsFor o f out) same)
+  read-stands out = (
+    ap (λ o. tableFor o f) same ∙ table-stands (Was.readOutcome f cabinet line catalogue (length out)) one,
+    ap₂ (λ o ws. whenDone o (ws ++ drop m out) out) same (region-words-stand e not-2 f n m),
+  )
     where
       same : readOutcome f cabinet line catalogue (length out) ≡ Was.readOutcome f cabinet line catalogue (length out)
-      same = rw file-range
+      same = ap (λ asks. firstOf (asks ++ (noRoom (length out) m ∷ []))) asks-stand
+
+      one : Was.readOutcome f cabinet line catalogue (length out) ≡ Done → e ≡ 1
+      one done = eqb-true e 1 (not-false _ (done-none (Was.readAsks f cabinet line catalogue (length out)) done .1 .0))
 
   pub record-stands : (number : ℕ) → (recordOutcome f cabinet line catalogue number ≡ Was.recordOutcome f cabinet line catalogue number)
       × (recordPlace f cabinet line catalogue number ≡ Was.recordPlace f cabinet line catalogue number)
       × (recordBytes f cabinet line catalogue number ≡ Was.recordBytes f cabinet line catalogue number)
-  record-stands number = (same, rw same, rw same)
+  record-stands number = (same, place, ap (λ p. partOf p f) place)
     where
       same : recordOutcome f cabinet line catalogue number ≡ Was.recordOutcome f cabinet line catalogue number
-      same = rw file-range
+      same = ap (λ asks. firstOf (asks ++ (noSuchRecord number n ∷ []))) asks-stand
+
+      place : recordPlace f cabinet line catalogue number ≡ Was.recordPlace f cabinet line catalogue number
+      place = ap₂ partFor same (record-part-stands e not-2 number)
+
+-- Writing told edition 1, whatever the table: asked is what item 8 asked, 19 between 11 and 12 (this list stands in `writeAsks` behind 2), and the file is as it was
+abbrev pub jitterAsks : Table → ℕ → ℕ → List ℕ → List ℕ → ℕ → Asks
+jitterAsks t cabinet line own catalogue room =
+    wrongCounts (t .n) (length own) ∷
+    (BlankPlate, blank cabinet line) ∷
+    (OutOfRange, not (leb cabinet mostCabinet && recordsInRange (t .records) (t .n))) ∷
+    badAssignment (t .records) (t .n) ∷
+    badRegions (t .records) (t .n) own catalogue ∷
+    (JitterInEditionOne, anyJitter (t .records) (t .n)) ∷
+    noRoom room (Was.fileLength (t .n) (length own)) ∷ []
+
+pub told-one-stands : (t : Table) (cabinet line : ℕ) (own catalogue out : List ℕ) → let o = firstOf (jitterAsks t cabinet line own catalogue (length out)) in
+    (writeAnswer 1 t cabinet line own catalogue out ≡ lengthFor o (Was.fileLength (t .n) (length own)))
+    × (writeOut 1 t cabinet line own catalogue out ≡ Was.fileFor o t cabinet line own out)
+told-one-stands t cabinet line own catalogue out =
+    let o = firstOf (jitterAsks t cabinet line own catalogue (length out)) in
+    (refl, ap (λ (file : List ℕ). whenDone o (file ++ drop (Was.fileLength (t .n) (length own)) out) out) (file-stands t cabinet line own))
 
 -- The calls on a table of which each J is 0
 module _ (t : Table) (still : (k : ℕ) → k < t .n → rec (t .records) k .jitter ≡ 0) where
@@ -103,12 +161,15 @@ module _ (t : Table) (still : (k : ℕ) → k < t .n → rec (t .records) k .jit
   none : anyJitter (t .records) (t .n) ≡ false
   none = all-still (t .records) (t .n) still
 
-  pub write-stands : (cabinet line : ℕ) (own catalogue out : List ℕ) → (writeAnswer t cabinet line own catalogue out ≡ Was.writeAnswer t cabinet line own catalogue out)
-      × (writeOut t cabinet line own catalogue out ≡ Was.writeOut t cabinet line own catalogue out)
-  write-stands cabinet line own catalogue out =
-      (ap (λ o. lengthFor o (fileLength (t .n) (length own))) same, ap (λ o. fileFor o t cabinet line own out) same)
+  -- writing told edition 1, the one that was written without being told
+  pub write-stands : (cabinet line : ℕ) (own catalogue out : List ℕ) → (writeAnswer 1 t cabinet line own catalogue out ≡ Was.writeAnswer t cabinet line own catalogue out)
+      × (writeOut 1 t cabinet line own catalogue out ≡ Was.writeOut t cabinet line own catalogue out)
+  write-stands cabinet line own catalogue out = (
+    ap (λ o. lengthFor o (Was.fileLength (t .n) (length own))) same,
+    ap₂ (λ o file. whenDone o (file ++ drop (Was.fileLength (t .n) (length own)) out) out) same (file-stands t cabinet line own),
+  )
     where
-      same : writeOutcome t cabinet line own catalogue (length out) ≡ Was.writeOutcome t cabinet line own catalogue (length out)
+      same : writeOutcome 1 t cabinet line own catalogue (length out) ≡ Was.writeOutcome t cabinet line own catalogue (length out)
       same = rw (range, none)
 
   -- response times, with their jobs

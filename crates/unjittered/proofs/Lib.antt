@@ -1,3 +1,4 @@
 pub mod Before
+pub mod Editions
 pub mod Stands
 pub mod Calls

@@ -11,24 +11,24 @@ use Rattle.paper.specs.File.{wordAt, regionWords}
 use Rattle.laws.proofs.Lists.{list-length, fill-turn}
 use Rattle.unpack.specs.Unpack.{wordsArray}
 
-pub words-length : (f : List ℕ) (n m : ℕ) → length (regionWords f n m) ≡ m
+pub words-length : (f : List ℕ) (e n m : ℕ) → length (regionWords f e n m) ≡ m
 unfolding regionWords
-words-length f n m = list-length m (λ k. field f (wordAt n k) 20)
+words-length f e n m = list-length m (λ k. field f (wordAt e n k) 20)
 
 -- the turns of the loop that fills the array
-pub array-none : (f : List ℕ) (n : ℕ) → replicate mostWords 0 ≡ wordsArray f n 0
+pub array-none : (f : List ℕ) (e n : ℕ) → replicate mostWords 0 ≡ wordsArray f e n 0
 unfolding wordsArray regionWords listTo
-array-none f n = refl
+array-none f e n = refl
 
-pub array-turn : (f : List ℕ) (n k : ℕ) {ws : List ℕ} {w : ℕ} → k < mostWords
-    → ws ≡ wordsArray f n k → w ≡ field f (wordAt n k) 20 → set ws k w ≡ wordsArray f n (k + 1)
+pub array-turn : (f : List ℕ) (e n k : ℕ) {ws : List ℕ} {w : ℕ} → k < mostWords
+    → ws ≡ wordsArray f e n k → w ≡ field f (wordAt e n k) 20 → set ws k w ≡ wordsArray f e n (k + 1)
 unfolding wordsArray regionWords
-array-turn f n k h e g = fill-turn mostWords k _ 0 h e g
+array-turn f e n k h q g = fill-turn mostWords k _ 0 h q g
 
 -- the front of the array is the words
-pub array-front : (f : List ℕ) (n m : ℕ) {ws : List ℕ} → ws ≡ wordsArray f n m → take m ws ≡ regionWords f n m
+pub array-front : (f : List ℕ) (e n m : ℕ) {ws : List ℕ} → ws ≡ wordsArray f e n m → take m ws ≡ regionWords f e n m
 unfolding wordsArray
-array-front f n m e = rw e (take-at (regionWords f n m) (replicate (mostWords - m) 0) m (words-length f n m))
+array-front f e n m q = rw q (take-at (regionWords f e n m) (replicate (mostWords - m) 0) m (words-length f e n m))
 
-pub front-length : (f : List ℕ) (n m : ℕ) {ws : List ℕ} → ws ≡ wordsArray f n m → m ≡ length (take m ws)
-front-length f n m e = rw (array-front f n m e) (sym (words-length f n m))
+pub front-length : (f : List ℕ) (e n m : ℕ) {ws : List ℕ} → ws ≡ wordsArray f e n m → m ≡ length (take m ws)
+front-length f e n m q = rw (array-front f e n m q) (sym (words-length f e n m))

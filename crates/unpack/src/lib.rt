@@ -1,16 +1,21 @@
 // What a file of known size says: its records, its region words, and whether its spare bits are clear.
 ghost use mathlib.Core.Path.{_≡_};
-ghost use Prim.Native.Nat.{_+_, _<_};
+ghost use Prim.Native.Nat.{_+_};
 ghost use lib.Dec.{eqb};
-ghost use lib.ListN.{getD};
+ghost use lib.ListN.{length};
 ghost use Rattle.paper.specs.Vocabulary.{every};
 ghost use Rattle.paper.specs.Numbers.{zeroRecord};
-ghost use Rattle.paper.specs.File.{recordFields, recordIn, recordsIn, sourceOf, spareClear};
+ghost use Rattle.paper.specs.Bits.{field, fieldsAt};
+ghost use Rattle.paper.specs.File.{inEdition, recordWidths, recordFields, recordFrom, spareFrom, recordsIn, sourceOf, spareClear};
 ghost use Rattle.paper.specs.Answers.{noTable};
-ghost use Rattle.unpack.specs.Unpack.{Sized, Holds, wordsArray};
+ghost use Rattle.layout.specs.Places.{Holds, Lies};
+ghost use Rattle.unpack.specs.Unpack.{Sized, wordsArray};
 use paper::Record;
 use paper::Source;
 use paper::Table;
+
+// Edition 1 has no place for a jitter.
+const NO_JITTER: u32 = 0;
 
 fn source_of(bit: u64) -> Source
     ensures { λ r. ⌜ r ≡ sourceOf bit ⌝ }
@@ -50,12 +55,37 @@ pub fn no_table() -> Table
     }
 }
 
-// Record k + 1.
-fn record_in(f: &[u8], k: usize) -> Record
-    requires { ⌜ Holds (now f) (k + 1) ⌝ }
-    ensures { λ r. ⌜ r ≡ recordIn (now (f .entry)) k ⌝ }
+// What stands behind the used bits of the record that begins at bit `at`: in edition 2 its jitter,
+fn jitter_in(f: &[u8], edition: u8, at: usize) -> u32
+    requires { ⌜ Lies (length (now f)) edition at ⌝ }
+    ensures { λ r. ⌜ r ≡ inEdition edition 0 (field (now (f .entry)) (at + 90) 20) ⌝ }
 {
-    let at = layout::HEAD_BITS + layout::RECORD_BITS * k;
+    if edition == layout::EDITION_TWO {
+        return bits::get(f, at + layout::RECORD_USED, layout::JITTER_BITS) as u32;
+    }
+    NO_JITTER
+}
+
+// and last its spare bits.
+fn spare_in(f: &[u8], edition: u8, at: usize) -> u64
+    requires { ⌜ Lies (length (now f)) edition at ⌝ }
+    ensures { λ r. ⌜ r ≡ inEdition edition (field (now (f .entry)) (at + 90) 6) (field (now (f .entry)) (at + 110) 10) ⌝ }
+{
+    if edition == layout::EDITION_TWO {
+        return bits::get(
+            f,
+            at + layout::RECORD_USED + layout::JITTER_BITS,
+            layout::SPARE_TWO,
+        );
+    }
+    bits::get(f, at + layout::RECORD_USED, layout::SPARE_ONE)
+}
+
+// The record that begins there.
+fn record_in(f: &[u8], edition: u8, at: usize) -> Record
+    requires { ⌜ Lies (length (now f)) edition at ⌝ }
+    ensures { λ r. ⌜ r ≡ recordFrom edition (fieldsAt (now (f .entry)) at (recordWidths edition)) ⌝ }
+{
     let cost = bits::get(f, at, 20) as u32;
     let period = bits::get(f, at + 20, 20) as u32;
     let deadline = bits::get(f, at + 40, 20) as u32;
@@ -65,8 +95,7 @@ fn record_in(f: &[u8], k: usize) -> Record
     let first = bits::get(f, at + 69, 7) as u32;
     let count = bits::get(f, at + 76, 7) as u32;
     let name = bits::get(f, at + 83, 7) as u32;
-    // A file of edition 1 has no place for it.
-    let jitter = 0;
+    let jitter = jitter_in(f, edition, at);
     Record {
         cost,
         period,
@@ -82,67 +111,61 @@ fn record_in(f: &[u8], k: usize) -> Record
 }
 
 // The table of the first n records; the others are zero.
-pub fn table_in(f: &[u8], n: usize) -> Table
-    requires { ⌜ Holds (now f) n ⌝ }
-    ensures { λ r. ⌜ (r .n ≡ n) × (r .records ≡ recordsIn (now (f .entry)) n) ⌝ }
+pub fn table_in(f: &[u8], edition: u8, n: usize) -> Table
+    requires { ⌜ Holds (length (now f)) edition n ⌝ }
+    ensures { λ r. ⌜ (r .n ≡ n) × (r .records ≡ recordsIn (now (f .entry)) edition n) ⌝ }
 {
     let z = zero_record();
     let mut records = [z; paper::MOST_TASKS];
     let mut k: usize = 0;
     while k < n {
-        records[k] = record_in(f, k);
+        let at = layout::record_at(edition, k);
+        records[k] = record_in(f, edition, at);
         k += 1;
     }
     Table { n, records }
 }
 
 // The m region words after n records, at the front of an array of zeros.
-pub fn words_in(f: &[u8], n: usize, m: usize) -> [u32; paper::MOST_WORDS]
-    requires { ⌜ Sized (now f) n m ⌝ }
-    ensures { λ r. ⌜ r ≡ wordsArray (now (f .entry)) n m ⌝ }
+pub fn words_in(f: &[u8], edition: u8, n: usize, m: usize) -> [u32; paper::MOST_WORDS]
+    requires { ⌜ Sized (now f) edition n m ⌝ }
+    ensures { λ r. ⌜ r ≡ wordsArray (now (f .entry)) edition n m ⌝ }
 {
     let mut words = [0u32; paper::MOST_WORDS];
     let mut k: usize = 0;
     while k < m {
-        words[k] = bits::get(
-            f,
-            layout::HEAD_BITS + layout::RECORD_BITS * n + layout::WORD_BITS * k,
-            layout::WORD_BITS,
-        ) as u32;
+        let at = layout::word_at(edition, n, k);
+        words[k] = bits::get(f, at, layout::WORD_BITS) as u32;
         k += 1;
     }
     words
 }
 
-fn records_spare_clear(f: &[u8], n: usize) -> bool
-    requires { ⌜ Holds (now f) n ⌝ }
-    ensures { λ r. ⌜ r ≡ every n (λ k. eqb (getD (recordFields (now (f .entry)) k) 9 0) 0) ⌝ }
+fn records_spare_clear(f: &[u8], edition: u8, n: usize) -> bool
+    requires { ⌜ Holds (length (now f)) edition n ⌝ }
+    ensures { λ r. ⌜ r ≡ every n (λ k. eqb (spareFrom edition (recordFields (now (f .entry)) edition k)) 0) ⌝ }
 {
     let mut ok = true;
     let mut k: usize = 0;
     while k < n {
-        ok = ok
-            & (bits::get(
-                f,
-                layout::HEAD_BITS + layout::RECORD_BITS * k + layout::RECORD_USED,
-                layout::RECORD_SPARE,
-            )
-                == 0);
+        let at = layout::record_at(edition, k);
+        ok = ok & (spare_in(f, edition, at) == 0);
         k += 1;
     }
     ok
 }
 
 // Are the spare bits of the head and of the n records clear, and the filler after the m words?
-pub fn spare_clear(f: &[u8], n: usize, m: usize) -> bool
-    requires { ⌜ Sized (now f) n m ⌝ }
-    ensures { λ r. ⌜ r ≡ spareClear (now (f .entry)) n m ⌝ }
+pub fn spare_clear(f: &[u8], edition: u8, n: usize, m: usize) -> bool
+    requires { ⌜ Sized (now f) edition n m ⌝ }
+    ensures { λ r. ⌜ r ≡ spareClear (now (f .entry)) edition n m ⌝ }
 {
     let head = bits::get(f, 4, 4);
-    let records = records_spare_clear(f, n);
+    let records = records_spare_clear(f, edition, n);
+    let end = layout::word_at(edition, n, m);
     let filler = bits::get(
         f,
-        layout::HEAD_BITS + layout::RECORD_BITS * n + layout::WORD_BITS * m,
+        end,
         (layout::WORD_BITS * m + 7) / 8 * 8 - layout::WORD_BITS * m,
     );
     (head == 0) & (records & (filler == 0))

@@ -13,22 +13,23 @@ use paper::Table;
 use paper::WriteAnswer;
 
 // Makes s, which has the file's length, the file.
-fn put_file(s: &mut [u8], t: Table, cabinet: Cabinet, line: Line, own: &[u32])
-    requires { ⌜ (t .n ≤ mostTasks) × (length (now own) ≤ mostWords) × (length (now s) ≡ fileLength (t .n) (length (now own))) ⌝ }
-    ensures { λ _. ⌜ now (s .exit) ≡ fileOf t (cabinet .0) (line .0) (now (own .entry)) ⌝ }
+fn put_file(s: &mut [u8], edition: u8, t: Table, cabinet: Cabinet, line: Line, own: &[u32])
+    requires { ⌜ (t .n ≤ mostTasks) × (length (now own) ≤ mostWords) × (length (now s) ≡ fileLength edition (t .n) (length (now own))) ⌝ }
+    ensures { λ _. ⌜ now (s .exit) ≡ fileOf edition t (cabinet .0) (line .0) (now (own .entry)) ⌝ }
 {
     let n = t.n;
     let rs = t.records;
     let m = own.len();
     let end = s.len() - layout::SEAL_BYTES;
-    pack::put_head(s, cabinet, line, n, m);
-    pack::put_records(s, rs, n);
-    pack::put_words(s, n, own);
+    pack::put_head(s, edition, cabinet, line, n, m);
+    pack::put_records(s, edition, rs, n);
+    pack::put_words(s, edition, n, own);
     seal::put_seal(s, end);
 }
 
-// What writing asks, in the paper's order. 5 comes first: the checks behind 18 look at n records and m words.
+// What writing asks, in the paper's order. 5 comes before the checks that look at n records and m words.
 fn outcome_of(
+    edition: u8,
     t: Table,
     cabinet: Cabinet,
     line: Line,
@@ -36,8 +37,11 @@ fn outcome_of(
     catalogue: &[u32],
     room: usize,
 ) -> Outcome
-    ensures { λ x. ⌜ x ≡ writeOutcome t (cabinet .0) (line .0) (now (own .entry)) (now (catalogue .entry)) room ⌝ }
+    ensures { λ x. ⌜ x ≡ writeOutcome edition t (cabinet .0) (line .0) (now (own .entry)) (now (catalogue .entry)) room ⌝ }
 {
+    if !layout::is_edition(edition) {
+        return Outcome::Refused(Refusal::WrongEdition);
+    }
     let n = t.n;
     let rs = t.records;
     let m = own.len();
@@ -58,17 +62,19 @@ fn outcome_of(
     if !regions::all_regions_hold(rs, n, own, catalogue) {
         return Outcome::Refused(Refusal::BadRegions);
     }
-    if !checks::unjittered(rs, n) {
+    let lost = (edition == layout::EDITION_ONE) & !checks::unjittered(rs, n);
+    if lost {
         return Outcome::Refused(Refusal::JitterInEditionOne);
     }
-    if room < layout::file_length(n, m) {
+    if room < layout::file_length(edition, n, m) {
         return Outcome::Refused(Refusal::NoRoom);
     }
     Outcome::Done
 }
 
-// Writes the file to the front of `out`: exactly its bytes, or nothing on a refusal.
+// Writes the file of that edition to the front of `out`: exactly its bytes, or nothing on a refusal.
 pub fn write(
+    edition: u8,
     t: Table,
     cabinet: Cabinet,
     line: Line,
@@ -76,17 +82,17 @@ pub fn write(
     catalogue: &[u32],
     out: &mut [u8],
 ) -> WriteAnswer
-    ensures { λ r. ⌜ r ≡ writeAnswer t (cabinet .0) (line .0) (now (own .entry)) (now (catalogue .entry)) (now (out .entry)) ⌝ }
-    ensures { λ _. ⌜ now (out .exit) ≡ writeOut t (cabinet .0) (line .0) (now (own .entry)) (now (catalogue .entry)) (now (out .entry)) ⌝ }
+    ensures { λ r. ⌜ r ≡ writeAnswer edition t (cabinet .0) (line .0) (now (own .entry)) (now (catalogue .entry)) (now (out .entry)) ⌝ }
+    ensures { λ _. ⌜ now (out .exit) ≡ writeOut edition t (cabinet .0) (line .0) (now (own .entry)) (now (catalogue .entry)) (now (out .entry)) ⌝ }
 {
     let room = out.len();
-    let outcome = outcome_of(t, cabinet, line, own, catalogue, room);
+    let outcome = outcome_of(edition, t, cabinet, line, own, catalogue, room);
     match outcome {
         Outcome::Refused(r) => WriteAnswer::Refused(r),
         Outcome::Done => {
             let n = t.n;
-            let size = layout::file_length(n, own.len());
-            put_file(&mut out[..size], t, cabinet, line, own);
+            let size = layout::file_length(edition, n, own.len());
+            put_file(&mut out[..size], edition, t, cabinet, line, own);
             WriteAnswer::File(size)
         }
     }

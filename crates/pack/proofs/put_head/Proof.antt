@@ -7,11 +7,11 @@ use Rattle.pack.proofs.put_head.Tie as tie
 clear-requires : tie.Need-clear-requires
 clear-requires c κs = search needs
 
-cast-t11 : tie.Need-cast-t11
-cast-t11 c = search needs
+cast-t13 : tie.Need-cast-t13
+cast-t13 c = search needs
 
-cast-t12 : tie.Need-cast-t12
-cast-t12 c = search needs
+cast-t14 : tie.Need-cast-t14
+cast-t14 c = search needs
 
 slice-aggregate-put-all : tie.Need-slice-aggregate-put-all
 slice-aggregate-put-all c = search needs
@@ -37,8 +37,8 @@ put-head-spec =
     tie.close
     (tie.spec
     clear-requires
-    cast-t11
-    cast-t12
+    cast-t13
+    cast-t14
     slice-aggregate-put-all
     slice-aggregate-put-all-2
     put-all-requires

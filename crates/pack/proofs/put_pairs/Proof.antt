@@ -9,16 +9,13 @@ use Rattle.pack.proofs.put_pairs.Statement.{statement}
 use Rattle.pack.proofs.put_pairs.Tie as tie
 
 abbrev Inv-loop : tie.InvT-loop
-Inv-loop s₀ n ws p at i₀ s i = (i ≤ p) × (length s ≡ length s₀) × (s ≡ putWords s₀ n ws (2 * i))
+Inv-loop s₀ e n ws p at i₀ s i = (i ≤ p) × (length s ≡ length s₀) × (s ≡ putWords s₀ e n ws (2 * i))
 
 abbrev μ-loop : tie.MeasureT-loop
-μ-loop s₀ n ws p at i₀ s i = p - i
+μ-loop s₀ e n ws p at i₀ s i = p - i
 
-mul-at : tie.Need-mul-at Inv-loop μ-loop
-mul-at c = omega arith
-
-add-at : tie.Need-add-at Inv-loop μ-loop
-add-at c = omega arith
+record-at-requires : tie.Need-record-at-requires Inv-loop μ-loop
+record-at-requires c κs = omega arith
 
 loop-holds : tie.Need-loop-holds Inv-loop μ-loop
 unfolding putWords
@@ -66,14 +63,14 @@ loop-again c =
     let p = c .before .before .put-pair in (
       omega arith,
       p .kept .0 ∙ l .inv .1,
-      pair-turn _ _ _ (2 * l .i) _ (omega arith) (l .inv .2) (p .ensures) ∙ ap (putWords _ _ _) (omega arith),
+      pair-turn _ _ _ _ (2 * l .i) _ (omega arith) (l .inv .2) (p .ensures) ∙ ap (putWords _ _ _ _) (omega arith),
     )
 
 same-length : tie.Need-same-length Inv-loop μ-loop
 same-length c = c .before .loop .inv .1
 
 returns : tie.Need-returns Inv-loop μ-loop
-returns c = c .before .loop .inv .2 ∙ ap (putWords _ _ _) (omega arith)
+returns c = c .before .loop .inv .2 ∙ ap (putWords _ _ _ _) (omega arith)
 
 pub put-pairs-spec : {M : Type 1} → statement M
 put-pairs-spec =
@@ -81,8 +78,7 @@ put-pairs-spec =
     (tie.spec
     Inv-loop
     μ-loop
-    mul-at
-    add-at
+    record-at-requires
     loop-holds
     mul-put-pair
     add-put-pair

@@ -20,22 +20,13 @@ same-length : tie.Need-same-length
 same-length c = search needs
 
 returns : tie.Need-returns
-returns c = c .before .before .before .put-pairs .ensures ∙ ap (putWords _ _ _) (omega arith)
+returns c = c .before .before .before .put-pairs .ensures ∙ ap (putWords _ _ _ _) (omega arith)
 
-mul-at : tie.Need-mul-at
-mul-at c = search needs
+mul-word-at : tie.Need-mul-word-at
+mul-word-at c = search needs
 
-add-at : tie.Need-add-at
-add-at c = search needs
-
-mul-at-2 : tie.Need-mul-at-2
-mul-at-2 c = search needs
-
-mul-at-3 : tie.Need-mul-at-3
-mul-at-3 c = search needs
-
-add-at-2 : tie.Need-add-at-2
-add-at-2 c = search needs
+word-at-requires : tie.Need-word-at-requires
+word-at-requires c κs = search needs
 
 mul-put : tie.Need-mul-put
 mul-put c = search needs
@@ -48,7 +39,7 @@ shared-slice-read-put c = search needs
 
 cast-put : tie.Need-cast-put
 cast-put c =
-    let a = c .before .before .before .before .before .before .before .before .before .args in
+    let a = c .before .before .before .before .before .before .before .before .before .before .args in
     omega (arith, c .shared-slice-known2 .given (2 * (length (now (a .ws)) / 2)))
 
 put-requires : tie.Need-put-requires
@@ -60,10 +51,10 @@ same-length-2 c = search needs
 returns-2 : tie.Need-returns-2
 returns-2 c =
     let w = c .before .before in
-    let h = w .before .before .before .before .before .before in
+    let h = w .before .before .before .before .before .before .before in
     let a = h .before .before .before .before .args in
     let p = 2 * (length (now (a .ws)) / 2) in
-    word-turn _ _ _ p (h .put-pairs .ensures) (w .put .ensures) ∙ ap (putWords _ _ _) (omega arith)
+    word-turn _ _ _ _ p (h .put-pairs .ensures) (rw (w .before .before .before .word-at .ensures .0) at (w .put .ensures)) ∙ ap (putWords _ _ _ _) (omega arith)
 
 pub put-words-spec : {M : Type 1} → statement M
 put-words-spec =
@@ -73,11 +64,8 @@ put-words-spec =
     mul-if1
     same-length
     returns
-    mul-at
-    add-at
-    mul-at-2
-    mul-at-3
-    add-at-2
+    mul-word-at
+    word-at-requires
     mul-put
     mul-put-2
     shared-slice-read-put

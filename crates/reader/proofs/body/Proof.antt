@@ -1,10 +1,12 @@
 -- The asks in their order, of what was unpacked: each way out is the first that applies, and the last is behind them all.
 use mathlib.Core.Path.{_≡_, refl}
 use Prim.Native.Nat.{ℕ}
+use native.Mathlib.Omega.{arith}
 use borrow.Author.Tests.{lt-ltb, le-ltb}
 use lib.ListN.{drop}
 use denote.Ref.{now}
 use Rattle.paper.specs.Refusals.{firstOf}
+use Rattle.paper.proofs.Sizes.{length-below}
 use Rattle.paper.specs.declared.Refusal.the-variants.{WrongSeal, SpareBitSet, OutOfRange, BadAssignment, BadRegions, NoRoom}
 use Rattle.paper.specs.declared.Outcome.{Outcome}
 use Rattle.checks.proofs.Asks.{stops, goes-on}
@@ -18,7 +20,7 @@ use Rattle.reader.proofs.body.Tie as tie
 abbrev Left : tie.Start → ℕ → Outcome → Type 0
 Left s k x =
     let a = s .args in
-    x ≡ firstOf (drop k (unpackedAsks (now (a .file)) (a .n) (a .m) (a .rs) (now (a .own)) (now (a .catalogue)) (a .room)))
+    x ≡ firstOf (drop k (unpackedAsks (now (a .file)) (a .edition) (a .n) (a .m) (a .rs) (now (a .own)) (now (a .catalogue)) (a .room)))
 
 -- x is what is promised
 abbrev Promised : tie.Start → Outcome → Type 0
@@ -66,7 +68,11 @@ sub-end : tie.Need-sub-end
 sub-end c = search needs
 
 is-sealed-requires : tie.Need-is-sealed-requires
-is-sealed-requires c κs = search needs
+is-sealed-requires c κs =
+    let s = c .before .before .before in
+    let sized = s .pre .sized in
+    let short = length-below (s .args .edition) (s .args .n) (s .args .m) (sized .tasks) (sized .words) in
+    omega (arith, sized .long)
 
 returns : tie.Need-returns
 returns c =

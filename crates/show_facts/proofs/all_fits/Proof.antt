@@ -8,7 +8,7 @@ use Rattle.paper.specs.Lengths.{regionsFit}
 use Rattle.laws.proofs.Every.{at-end}
 use Rattle.laws.proofs.Lists.{per-task-none, per-task-turn, per-task-full}
 use Rattle.tolerance.proofs.Machine.{read-back}
-use Rattle.show_facts.specs.Sheet.{fitsAt}
+use Rattle.show_facts.specs.Facts.{fitsAt}
 use borrow.Author.Needs.{needs}
 use Rattle.show_facts.proofs.all_fits.Statement.{statement}
 use Rattle.show_facts.proofs.all_fits.Tie as tie

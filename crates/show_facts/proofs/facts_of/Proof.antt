@@ -1,8 +1,26 @@
 -- Each field is its call's answer.
-use Rattle.show_facts.proofs.Says.{facts-are}
+use Prim.Native.Nat.{ℕ}
+use mathlib.Core.Path.{_≡_}
+use mathlib.Core.Bool.{Bool}
+use mathlib.Core.List.{List}
+use Rattle.paper.specs.Vocabulary.{listTo}
+use Rattle.paper.specs.Numbers.{mostTasks}
+use Rattle.paper.specs.Answers.{timesAnswer, tolerancesAnswer, lengthsAnswer, fitAnswer}
+use Rattle.paper.specs.declared.Table.{Table}
+use Rattle.paper.specs.declared.TimesAnswer.{TimesAnswer}
+use Rattle.paper.specs.declared.TicksAnswer.{TicksAnswer}
+use Rattle.paper.specs.declared.FitAnswer.{FitAnswer}
+use Rattle.show_facts.specs.Facts.{fitsAt, factsOf}
+use Rattle.show_facts.specs.declared.Facts.{Facts}
 use borrow.Author.Needs.{needs}
 use Rattle.show_facts.proofs.facts_of.Statement.{statement}
 use Rattle.show_facts.proofs.facts_of.Tie as tie
+
+facts-are : (t : Table) (own catalogue : List ℕ) {times : TimesAnswer} {tolerances lengths : TicksAnswer} {fits : List Bool} {check : FitAnswer}
+    → times ≡ timesAnswer t → tolerances ≡ tolerancesAnswer t → lengths ≡ lengthsAnswer t
+    → fits ≡ listTo mostTasks (fitsAt (t .records) (lengths .ticks) own catalogue) → check ≡ fitAnswer t own catalogue
+    → _≡_ {A = Facts} (record { table = t; times = times; tolerances = tolerances; lengths = lengths; fits = fits; check = check }) (factsOf t own catalogue)
+facts-are t own catalogue e f g h i = rw (e, f, h, g, i)
 
 response-times-requires : tie.Need-response-times-requires
 response-times-requires c κs = search needs

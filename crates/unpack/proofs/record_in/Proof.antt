@@ -1,15 +1,10 @@
 -- `unpack::record_in` meets its contract.
 use mathlib.Core.Path.{sym, _∙_}
+use denote.Ref.{now}
 use Rattle.paper.proofs.Places.{record-places}
 use borrow.Author.Needs.{needs}
 use Rattle.unpack.proofs.record_in.Statement.{statement}
 use Rattle.unpack.proofs.record_in.Tie as tie
-
-mul-at : tie.Need-mul-at
-mul-at c = search needs
-
-add-at : tie.Need-add-at
-add-at c = search needs
 
 get-requires : tie.Need-get-requires
 get-requires c κs = search needs
@@ -89,15 +84,18 @@ get-requires-9 c κs = search needs
 cast-name : tie.Need-cast-name
 cast-name c = search needs
 
+jitter-in-requires : tie.Need-jitter-in-requires
+jitter-in-requires c κs = search needs
+
 returns : tie.Need-returns
-returns c = sym (record-places _ _ ∙ (cc))
+returns c =
+    let a = c .before .before .before .before .before .before .before .before .before .before .before .before .args in
+    sym (record-places (now (a .f)) (a .edition) (a .at) ∙ (cc))
 
 pub record-in-spec : {M : Type 1} → statement M
 record-in-spec =
     tie.close
     (tie.spec
-    mul-at
-    add-at
     get-requires
     cast-cost
     add-get
@@ -124,4 +122,5 @@ record-in-spec =
     add-get-8
     get-requires-9
     cast-name
+    jitter-in-requires
     returns)

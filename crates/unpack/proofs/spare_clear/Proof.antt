@@ -10,6 +10,9 @@ get-requires c κs = search needs
 records-spare-clear-requires : tie.Need-records-spare-clear-requires
 records-spare-clear-requires c κs = search needs
 
+word-at-requires : tie.Need-word-at-requires
+word-at-requires c κs = search needs
+
 mul-get : tie.Need-mul-get
 mul-get c = search needs
 
@@ -19,20 +22,8 @@ add-get c = search needs
 mul-get-2 : tie.Need-mul-get-2
 mul-get-2 c = search needs
 
-add-get-2 : tie.Need-add-get-2
-add-get-2 c = search needs
-
 mul-get-3 : tie.Need-mul-get-3
 mul-get-3 c = search needs
-
-add-get-3 : tie.Need-add-get-3
-add-get-3 c = search needs
-
-mul-get-4 : tie.Need-mul-get-4
-mul-get-4 c = search needs
-
-mul-get-5 : tie.Need-mul-get-5
-mul-get-5 c = search needs
 
 sub-get : tie.Need-sub-get
 sub-get c = search needs
@@ -50,14 +41,11 @@ spare-clear-spec =
     (tie.spec
     get-requires
     records-spare-clear-requires
+    word-at-requires
     mul-get
     add-get
     mul-get-2
-    add-get-2
     mul-get-3
-    add-get-3
-    mul-get-4
-    mul-get-5
     sub-get
     get-requires-2
     returns)

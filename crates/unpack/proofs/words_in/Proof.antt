@@ -8,25 +8,16 @@ use Rattle.unpack.proofs.words_in.Statement.{statement}
 use Rattle.unpack.proofs.words_in.Tie as tie
 
 abbrev Inv-loop : tie.InvT-loop
-Inv-loop f n m words₀ k₀ words k = (k ≤ m) × (words ≡ wordsArray f n k)
+Inv-loop f e n m words₀ k₀ words k = (k ≤ m) × (words ≡ wordsArray f e n k)
 
 abbrev μ-loop : tie.MeasureT-loop
-μ-loop f n m words₀ k₀ words k = m - k
+μ-loop f e n m words₀ k₀ words k = m - k
 
 loop-holds : tie.Need-loop-holds Inv-loop μ-loop
-loop-holds c = (omega arith, array-none _ _)
+loop-holds c = (omega arith, array-none _ _ _)
 
-mul-get : tie.Need-mul-get Inv-loop μ-loop
-mul-get c = omega arith
-
-add-get : tie.Need-add-get Inv-loop μ-loop
-add-get c = omega arith
-
-mul-get-2 : tie.Need-mul-get-2 Inv-loop μ-loop
-mul-get-2 c = omega arith
-
-add-get-2 : tie.Need-add-get-2 Inv-loop μ-loop
-add-get-2 c = omega arith
+word-at-requires : tie.Need-word-at-requires Inv-loop μ-loop
+word-at-requires c κs = omega arith
 
 get-requires : tie.Need-get-requires Inv-loop μ-loop
 get-requires c κs = omega arith
@@ -48,10 +39,11 @@ loop-less c = omega arith
 
 loop-again : tie.Need-loop-again Inv-loop μ-loop
 loop-again c =
-    (omega arith, array-turn _ _ (c .before .before .loop .k) (omega arith) (c .before .before .loop .inv .1) (c .get .ensures .0))
+    let l = c .before .before .before .loop in
+    (omega arith, array-turn _ _ _ (l .k) (omega arith) (l .inv .1) (rw (c .before .word-at .ensures .0) at (c .get .ensures .0)))
 
 returns : tie.Need-returns Inv-loop μ-loop
-returns c = c .before .loop .inv .1 ∙ ap (wordsArray _ _) (omega arith)
+returns c = c .before .loop .inv .1 ∙ ap (wordsArray _ _ _) (omega arith)
 
 pub words-in-spec : {M : Type 1} → statement M
 words-in-spec =
@@ -60,10 +52,7 @@ words-in-spec =
     Inv-loop
     μ-loop
     loop-holds
-    mul-get
-    add-get
-    mul-get-2
-    add-get-2
+    word-at-requires
     get-requires
     cast-words
     mul-words

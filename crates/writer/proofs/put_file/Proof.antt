@@ -1,5 +1,9 @@
 -- `writer::put_file` meets its contract.
+use native.Mathlib.Omega.{arith}
+use lib.ListN.{length}
+use denote.Ref.{now}
 use Rattle.paper.specs.File.{fileOf}
+use Rattle.paper.proofs.Sizes.{length-below}
 use borrow.Author.Needs.{needs}
 use Rattle.writer.proofs.put_file.Statement.{statement}
 use Rattle.writer.proofs.put_file.Tie as tie
@@ -17,7 +21,10 @@ put-words-requires : tie.Need-put-words-requires
 put-words-requires c κs = search needs
 
 put-seal-requires : tie.Need-put-seal-requires
-put-seal-requires c κs = search needs
+put-seal-requires c κs =
+    let s = c .before .before .before .before .before .before .before .before .before .before .before .before .before .before .before .before in
+    let short = length-below (s .args .edition) (s .args .t .n) (length (now (s .args .own))) (s .pre .0) (s .pre .1) in
+    omega arith
 
 same-length : tie.Need-same-length
 same-length c = search needs

@@ -10,11 +10,11 @@ use borrow.Author.Needs.{needs}
 use Rattle.writer.proofs.write.Statement.{statement}
 use Rattle.writer.proofs.write.Tie as tie
 
-taken-here : (c : tie.After-enum-told) → let a = c .before .before .before .before .before .before .args in Taken (a .t) (a .cabinet .0) (a .line .0) (now (a .own)) (now (a .catalogue)) (length (now (a .out)))
+taken-here : (c : tie.After-enum-told) → let a = c .before .before .before .before .before .before .args in Taken (a .edition) (a .t) (a .cabinet .0) (a .line .0) (now (a .own)) (now (a .catalogue)) (length (now (a .out)))
 taken-here c =
     let h = c .before .before in
     let a = h .before .before .before .before .args in
-    write-says (a .t) (a .cabinet .0) (a .line .0) (now (a .own)) (now (a .catalogue)) (length (now (a .out))) (sym (h .outcome-of .ensures) ∙ c .enum-told .given .1)
+    write-says (a .edition) (a .t) (a .cabinet .0) (a .line .0) (now (a .own)) (now (a .catalogue)) (length (now (a .out))) (sym (h .outcome-of .ensures) ∙ c .enum-told .given .1)
 
 size-held : (c : tie.After-file-length) → c .file-length .result ≤ length (now (c .before .before .before .before .before .before .before .args .out))
 size-held c = rw (c .file-length .ensures) (taken-here (c .before) .fits)
@@ -46,7 +46,7 @@ returns : tie.Need-returns
 returns c =
     let h = c .before .before .before in
     let a = h .before .before .before .before .args in
-    refused (a .t) (a .cabinet .0) (a .line .0) (now (a .own)) (now (a .catalogue)) (now (a .out)) _ (sym (h .outcome-of .ensures) ∙ c .before .outcome .given .1)
+    refused (a .edition) (a .t) (a .cabinet .0) (a .line .0) (now (a .own)) (now (a .catalogue)) (now (a .out)) _ (sym (h .outcome-of .ensures) ∙ c .before .outcome .given .1)
 
 same-length : tie.Need-same-length
 same-length c = search needs
@@ -57,7 +57,7 @@ returns-2 c =
     let e = f .before in
     let h = e .before .before in
     let a = h .before .before .before .before .args in
-    written (a .t) (a .cabinet .0) (a .line .0) (now (a .own)) (now (a .catalogue)) (now (a .out)) _ _
+    written (a .edition) (a .t) (a .cabinet .0) (a .line .0) (now (a .own)) (now (a .catalogue)) (now (a .out)) _ _
     (sym (h .outcome-of .ensures) ∙ e .enum-told .given .1) (f .file-length .ensures) (c .before .before .put-file .ensures)
 
 pub write-spec : {M : Type 1} → statement M
