@@ -291,7 +291,8 @@ fn the_length_of_the_other_edition() {
         assert_eq!(reading(&file), refused(6));
         file[6] = other;
         assert_eq!(reading(&file), refused(7));
-        assert!([8, 9].contains(&number(reading(&resealed(file)))));
+        // Read as records of the other size, a bit of a cost comes to stand among the spare ones.
+        assert_eq!(reading(&resealed(file)), refused(8));
     }
 }
 
