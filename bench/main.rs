@@ -20,6 +20,7 @@ mod later;
 mod lengths;
 #[path = "../second/listing.rs"]
 mod listing;
+mod measure;
 #[path = "../second/random.rs"]
 mod random;
 #[path = "../second/seal.rs"]
@@ -29,9 +30,9 @@ mod spoil;
 #[path = "../second/table.rs"]
 mod table;
 
+use measure::{measure, say};
 use random::Random;
 use std::hint::black_box;
-use std::time::{Duration, Instant};
 use table::*;
 
 /// The core's calls, by numbers and slices (crates/bench). A table is the bytes of a request's.
@@ -292,28 +293,4 @@ fn table_bytes(table: &Table) -> Vec<u8> {
     let mut bytes = Vec::new();
     generate::put_table(&mut bytes, table);
     bytes
-}
-
-/// The shortest of several runs of `times` calls, and what they came to, so that none is left out.
-fn measure(times: u32, mut call: impl FnMut() -> u64) -> (Duration, u64) {
-    let mut best = Duration::MAX;
-    let mut sum = 0;
-    for _ in 0..7 {
-        let start = Instant::now();
-        sum = 0;
-        for _ in 0..times {
-            sum = black_box(call()).wrapping_add(sum);
-        }
-        best = best.min(start.elapsed() / times);
-    }
-    (best, sum)
-}
-
-fn say(work: &str, core: (Duration, u64), second: (Duration, u64)) {
-    println!(
-        "| {work} | {:.2?} | {:.2?} | {:.2} |",
-        core.0,
-        second.0,
-        second.0.as_secs_f64() / core.0.as_secs_f64()
-    );
 }

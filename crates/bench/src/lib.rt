@@ -1,6 +1,8 @@
 // The calls, for the programs in other languages that measure their time and their stack. A table comes as a request has it; a
 // slice is two parameters there, its start and its length. Where a call is turned away, the answer is the refusal's number.
 // Only those programs link this crate: `bench_passes` has a `requires`, which nothing checks on the other side.
+mod bit_by_bit;
+
 ghost use Prim.Native.Nat.{_*_, _≤_};
 ghost use Rattle.paper.specs.Numbers.{horizon};
 ghost use Rattle.columns.specs.Columns.{tasksBy, assignedBy, Ranged, Placed};
@@ -42,6 +44,12 @@ pub extern "C" fn bench_write(table: &[u8], own: &[u32], out: &mut [u8]) -> u64 
         WriteAnswer::File(_) => 0,
         WriteAnswer::Refused(r) => numbers::number_of(r),
     }
+}
+
+// The seal of the bytes s, as reading and writing use it.
+#[no_mangle]
+pub extern "C" fn bench_seal(s: &[u8]) -> u16 {
+    seal::seal_of(s)
 }
 
 // A response time and its job. Both lie below twice the horizon, as F and J each lie at most at it and J below a period: the

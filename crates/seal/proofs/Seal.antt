@@ -23,7 +23,7 @@ bit-lt c h = by-cases (decLt c 0x8000)
     (λ (l : c < 0x8000). rw (lt-ltb c 0x8000 l) (omega arith))
     (λ l. rw (le-ltb c 0x8000 (omega arith)) (xor-lt 16 (c * 2 - 0x10000) generator (omega arith) (omega arith)))
 
-bits-lt : (n c : ℕ) → c < 2 ^ 16 → sealBits n c < 2 ^ 16
+pub bits-lt : (n c : ℕ) → c < 2 ^ 16 → sealBits n c < 2 ^ 16
 unfolding sealBits
 bits-lt zero c h = h
 bits-lt (suc n) c h = bit-lt (sealBits n c) (bits-lt n c h)

@@ -1,52 +1,21 @@
--- `seal::seal_byte` meets its contract. The loop's invariant: i bits are moved through.
-use Prim.Native.Nat.{_*_, _-_, _≤_}
-use mathlib.Core.Path.{_≡_, refl}
+-- `seal::seal_byte` meets its contract.
 use native.Mathlib.Omega.{arith}
-use lib.Bits.{bitXor}
-use Rattle.paper.specs.Seal.{sealBits, sealByte}
-use Rattle.seal.proofs.Steps.{bits-more}
+use borrow.Author.Needs.{needs}
+use Rattle.seal.proofs.Tabled.{byte-adds}
 use Rattle.seal.proofs.seal_byte.Statement.{statement}
 use Rattle.seal.proofs.seal_byte.Tie as tie
 
-abbrev Inv-loop : tie.InvT-loop
-Inv-loop c b x₀ i₀ x i = (i ≤ 8) × (x ≡ sealBits i (bitXor c (b * 256)))
+mul-up : tie.Need-mul-up
+mul-up c = search needs
 
-abbrev μ-loop : tie.MeasureT-loop
-μ-loop c b x₀ i₀ x i = 8 - i
+cast-entry-at : tie.Need-cast-entry-at
+cast-entry-at c = search needs
 
-mul-x : tie.Need-mul-x Inv-loop μ-loop
-mul-x c = omega arith
+entry-at-requires : tie.Need-entry-at-requires
+entry-at-requires c κs = search needs
 
-loop-holds : tie.Need-loop-holds Inv-loop μ-loop
-unfolding sealBits
-loop-holds c = (omega arith, refl)
-
-seal-bit-requires : tie.Need-seal-bit-requires Inv-loop μ-loop
-seal-bit-requires c κs = tt
-
-add-i : tie.Need-add-i Inv-loop μ-loop
-add-i c = omega arith
-
-loop-less : tie.Need-loop-less Inv-loop μ-loop
-loop-less c = omega arith
-
-loop-again : tie.Need-loop-again Inv-loop μ-loop
-loop-again c = (omega arith, rw (bits-more, ← c .before .before .loop .inv .1) (c .seal-bit .ensures))
-
-returns : tie.Need-returns Inv-loop μ-loop
-unfolding sealByte
-returns c = let e : c .before .loop .i ≡ 8 = omega arith in rw (← e) (c .before .loop .inv .1)
+returns : tie.Need-returns
+returns c = rw (c .entry-at .ensures) (byte-adds _ _ (omega arith) (omega arith))
 
 pub seal-byte-spec : {M : Type 1} → statement M
-seal-byte-spec =
-    tie.close
-    (tie.spec
-    Inv-loop
-    μ-loop
-    mul-x
-    loop-holds
-    seal-bit-requires
-    add-i
-    loop-less
-    loop-again
-    returns)
+seal-byte-spec = tie.close (tie.spec mul-up cast-entry-at entry-at-requires returns)
