@@ -58,6 +58,10 @@ recordPart e k = record { from = 8 + recordSize e * (k - 1); count = recordSize 
 abbrev pub regionsPart : Record → Part
 regionsPart r = record { from = r .first; count = r .count }
 
+-- The last region comes back as a one-word part of the list it came from (document 02, item 2)
+abbrev pub lastPart : Record → Part
+lastPart r = record { from = r .first + r .count - 1; count = 1 }
+
 -- Names are 16-byte entries: numbers below 64 stand in the cabinet's name list, the others (less 64) in the house list
 abbrev pub nameWidth : ℕ
 nameWidth = 16

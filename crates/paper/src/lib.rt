@@ -127,6 +127,23 @@ pub enum FitAnswer {
     Refused(Refusal),
 }
 
+// The test of fixed preemption points for one task. It is sufficient only: where every task passes, all are in time, as the
+// theorem that it is taken from says; a task that is not shown may be in time all the same.
+pub enum Shown {
+    NotShown,
+    Passes,
+}
+
+pub struct PointVerdict {
+    pub verdict: Shown,
+}
+
+// The test for records 1 to n. The others, and all on a refusal, are not shown, which means nothing there.
+pub struct PointsAnswer {
+    pub outcome: Outcome,
+    pub tasks: [PointVerdict; MOST_TASKS],
+}
+
 // The listing: the row is in the lent buffer, or no row follows, or a refusal.
 pub enum RowAnswer {
     Row,
@@ -140,7 +157,7 @@ pub struct BytesPart<'a> {
     pub bytes: &'a [u8],
 }
 
-// A part of lent region words with its outcome. On a refusal the part is empty.
+// A part of lent region words (a task's regions, the last of them) with its outcome. On a refusal the part is empty.
 pub struct WordsPart<'a> {
     pub outcome: Outcome,
     pub words: &'a [u32],
