@@ -10,7 +10,7 @@ use lib.Dec.{leb, ltb, eqb}
 use lib.ListN.{length, getD, take, drop, length-take, length-drop}
 use lib.Seq.{drop-cons, getD-take, getD-drop}
 use Rattle.paper.specs.Vocabulary.{sumTo, ceilDiv}
-use Rattle.paper.specs.Numbers.{rec, ticksInRange, countsInRange, Assignment}
+use Rattle.paper.specs.Numbers.{mostTicks, rec, ticksInRange, countsInRange, Assignment}
 use Rattle.paper.specs.Regions.{listOf, wordsInRange, wordsSum, regionsHold, recordRegionsHold}
 use Rattle.paper.specs.Analysis.{Tasks, before, load}
 use Rattle.paper.specs.Points.{lastRegion, Chunks, alpha, beforeLast, startsInTime, pointsPass}
@@ -24,7 +24,7 @@ use Rattle.paper.proofs.Asks.{met}
 pub record Held (list : List ℕ) (first count c : ℕ) : Type 0 where
   pub there : 1 ≤ count
   pub inside : first + count ≤ length list
-  pub words : (i : ℕ) → i < count → 1 ≤ getD list (first + i) 0
+  pub words : (i : ℕ) → i < count → (1 ≤ getD list (first + i) 0) × (getD list (first + i) 0 ≤ mostTicks)
   pub cost : wordsSum list first count ≡ c
 
 pub regions-say : (list : List ℕ) (first count c : ℕ) → regionsHold list first count c ≡ true → Held list first count c
@@ -41,7 +41,7 @@ regions-say list first count c e =
     record {
       there = leb-true _ _ (p .0);
       inside = leb-true _ _ (s .0);
-      words = λ i l. within 1 _ _ (every-says count (λ i. ticksInRange (getD list (first + i) 0)) (w .0) i l) .0;
+      words = λ i l. within 1 mostTicks _ (every-says count (λ i. ticksInRange (getD list (first + i) 0)) (w .0) i l);
       cost = eqb-true _ _ (w .1);
     }
 

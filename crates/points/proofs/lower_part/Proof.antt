@@ -1,0 +1,14 @@
+use borrow.Author.Tests.{lt-ltb, le-ltb}
+use Rattle.points.proofs.lower_part.Statement.{statement}
+use Rattle.points.proofs.lower_part.Tie as tie
+use Rattle.points.proofs.lower_part.Reads as reads
+use Rattle.points.proofs.lower_part.Lts as lts
+
+returns : tie.Need-returns
+returns c = rw (lt-ltb _ _ (c .if1 .taken))
+
+returns-2 : tie.Need-returns-2
+returns-2 c = rw (le-ltb _ _ (c .if1 .left))
+
+pub lower-part-spec : {M : Type 1} → statement M
+lower-part-spec = tie.close (tie.spec returns returns-2)
