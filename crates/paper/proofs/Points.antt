@@ -47,11 +47,18 @@ regions-say list first count c e =
 
 -- The last region is the last word of the task's regions, and it is what the test takes for q.
 module _ (t : Table) (own catalogue : List ℕ) (number : ℕ) (e : regionsOutcome t own catalogue number ≡ Done) where
-  held : let r = rec (t .records) (number - 1) in Held (listOf (r .source) own catalogue) (r .first) (r .count) (r .cost)
+  pub held : let r = rec (t .records) (number - 1) in Held (listOf (r .source) own catalogue) (r .first) (r .count) (r .cost)
   held =
       let c = met (countsInRange (t .n) (length own)) _ _ e in
       let n = met (leb 1 number && leb number (t .n)) _ _ (c .1) in
       regions-say _ _ _ _ (met (recordRegionsHold own catalogue (rec (t .records) (number - 1))) _ _ (n .1) .0)
+
+  -- there are as many words as the record says
+  pub words-counted : length (regionsWords t own catalogue number) ≡ rec (t .records) (number - 1) .count
+  words-counted =
+      let r = rec (t .records) (number - 1) in
+      let l = listOf (r .source) own catalogue in
+      rw e (length-take (r .count) (drop (r .first) l) ∙ rw (length-drop (r .first) l) (omega (arith, held .inside)))
 
   pub last-taken : lastWords t own catalogue number ≡ lastRegion own catalogue (rec (t .records) (number - 1)) ∷ []
   last-taken =
@@ -64,11 +71,9 @@ module _ (t : Table) (own catalogue : List ℕ) (number : ℕ) (e : regionsOutco
   last-is-last =
       let r = rec (t .records) (number - 1) in
       let l = listOf (r .source) own catalogue in
-      let size : length (take (r .count) (drop (r .first) l)) ≡ r .count
-          = length-take (r .count) (drop (r .first) l) ∙ rw (length-drop (r .first) l) (omega (arith, held .inside)) in
       let place : r .first + (r .count - 1) ≡ r .first + r .count - 1 = omega (arith, held .there) in
       last-taken
-      ∙ rw (e, size, getD-take (r .count) (drop (r .first) l) (r .count - 1) 0 (omega (arith, held .there)), getD-drop (r .first) l (r .count - 1) 0, place)
+      ∙ rw (words-counted, e, getD-take (r .count) (drop (r .first) l) (r .count - 1) 0 (omega (arith, held .there)), getD-drop (r .first) l (r .count - 1) 0, place)
 
 -- A t that lets a task pass: from 1 to D(i) − J(i) − q, with (C(i) − q) + sum over p(j) < p(i) of ceil((t + J(j))/T(j))·C(j) + alpha ≤ t.
 pub record Point (y : Tasks) (a : Assignment) (i q blocked t : ℕ) : Type 0 where
