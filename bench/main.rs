@@ -8,6 +8,8 @@ mod analysis;
 mod bits;
 #[path = "../second/checks.rs"]
 mod checks;
+#[path = "../second/cut.rs"]
+mod cut;
 #[path = "../second/draw.rs"]
 mod draw;
 #[path = "../second/file.rs"]
@@ -20,6 +22,8 @@ mod later;
 mod lengths;
 #[path = "../second/listing.rs"]
 mod listing;
+#[path = "../second/margins.rs"]
+mod margins;
 mod measure;
 #[path = "../second/random.rs"]
 mod random;

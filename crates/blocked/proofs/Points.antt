@@ -1,9 +1,9 @@
 -- What ties fixed preemption points (document 02, item 2) to the floating regions that tolerances are for (source document 000, section VII): of a table that the test answers, alpha is 0 exactly for the lowest task, no difference that the test takes falls below zero, and a task whose tolerance is at least alpha passes.
 use Prim.Native.Nat.{ℕ, _+_, _-_, _≤_, _<_}
-use mathlib.Core.Path.{_≡_, sym, subst, _∙_}
+use mathlib.Core.Path.{_≡_, refl, sym, ap, subst, _∙_}
 use mathlib.Core.Bool.{Bool, true, false, cond}
-use mathlib.Core.List.{List, [], _∷_}
-use mathlib.Core.Logic.{_↔_, inl, inr, by-cases}
+use mathlib.Core.List.{List}
+use mathlib.Core.Logic.{_↔_, _⊎_, inl, inr, by-cases}
 use native.Mathlib.Decide.{decLe}
 use native.Mathlib.Omega.{arith}
 use native.Mathlib.Nat.{le-trans}
@@ -17,15 +17,19 @@ use Rattle.paper.specs.Numbers.{rec, countsInRange, recordsInRange, assigned, u
 use Rattle.paper.specs.Regions.{listOf, wordsInRange, recordRegionsHold, allRegionsHold}
 use Rattle.paper.specs.Analysis.{Tasks, tasksOf, before, load}
 use Rattle.paper.specs.Lengths.{slack, tolerance, lowestBelowZero}
-use Rattle.paper.specs.Points.{longestRegion, lastRegion, Chunks, chunksOf, alpha, pointsPass}
+use Rattle.paper.specs.Points.{Chunks, chunksOf, alpha, pointsPass}
 use Rattle.paper.specs.Refusals.{firstOf, fitAsks}
+use Rattle.paper.specs.Answers.{verdictFor, pointsAnswer}
 use Rattle.paper.specs.declared.Table.{Table}
+use Rattle.paper.specs.declared.PointVerdict.{PointVerdict}
+use Rattle.paper.specs.declared.Shown.the-variants.{NotShown, Passes}
 use Rattle.paper.specs.declared.Outcome.the-variants.{Done}
 use Rattle.paper.proofs.Tests.{both, every-says}
 use Rattle.paper.proofs.Asks.{met, clear}
 use Rattle.paper.proofs.Lengths.{Tolerable, lowest-zero, tolerance-reached}
 use Rattle.paper.proofs.Points.{Held, regions-say, Point, passes-means}
-use Rattle.laws.proofs.Sums.{sum-part, max-part, max-bound, part-bound}
+use Rattle.laws.proofs.Sums.{sum-part, max-part, max-bound}
+use Rattle.laws.proofs.Lists.{per-task-at}
 use Rattle.laws.proofs.Signed.{pos-sub}
 use Rattle.laws.proofs.Arrivals.{before-le, load-le}
 
@@ -119,3 +123,15 @@ module _ (t : Table) (own catalogue : List ℕ) (e : firstOf (fitAsks t own cata
           let part = rw (lt-ltb (a .p i) (a .p k) h) at (max-part (t .n) (λ k. cond (ltb (a .p i) (a .p k)) (g .longest k) 0) k l) in
           let word = max-part (r .count) (λ i. getD (listOf (r .source) own catalogue) (r .first + i) 0) 0 (w .there) in
           omega (arith, part, word, w .words 0 (w .there) .0)
+
+  -- What the answer means: it says "passes" of a task exactly where alpha is 0 or there is a t.
+  pub answered-means : (i : ℕ) → i < t .n
+      → (getD (pointsAnswer t own catalogue .tasks) i (verdictFor false) .verdict ≡ Passes) ↔ ((alpha y a g i ≡ 0) ⊎ ((u : ℕ) × Point y a i (g .last i) (alpha y a g i) u))
+  answered-means i l = (λ h. passes-means y a g i .0 (shown (pointsPass y a g i) (sym said ∙ h)), λ w. said ∙ rw (passes-means y a g i .1 w))
+    where
+      said : getD (pointsAnswer t own catalogue .tasks) i (verdictFor false) .verdict ≡ cond (pointsPass y a g i) Passes NotShown
+      said = rw e (ap (λ (v : PointVerdict). v .verdict) (per-task-at (t .n) (λ k. verdictFor (pointsPass y a g k)) (verdictFor false) (verdictFor false) i l))
+
+      shown : (b : Bool) → cond b Passes NotShown ≡ Passes → b ≡ true
+      shown true h = refl
+      shown false h = let z : _≡_ {A = ℕ} 0 1 = cc in absurd (omega arith)

@@ -4,7 +4,7 @@ use mathlib.Core.Path.{_≡_, ap, sym, _∙_}
 use native.Mathlib.Omega.{arith}
 use lib.Dec.{ltb, eqb}
 use Rattle.paper.specs.Numbers.{mostTicks, horizon, Assignment}
-use Rattle.paper.specs.Analysis.{Tasks, before, load, within}
+use Rattle.paper.specs.Analysis.{Tasks, before, within}
 use Rattle.paper.specs.Points.{beforeLast, startsInTime}
 use Rattle.laws.proofs.Arrivals.{before-le, load-le}
 use Rattle.laws.proofs.Least.{Mono, least-same, some-least}

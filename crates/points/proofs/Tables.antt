@@ -3,19 +3,16 @@ use Prim.Native.Nat.{ℕ, _≤_, _<_}
 use mathlib.Core.Path.{_≡_, refl, ap, ap₂, sym, _∙_}
 use mathlib.Core.Bool.{Bool, true, false, _||_, cond}
 use mathlib.Core.List.{List}
-use native.Mathlib.Omega.{arith}
 use borrow.Author.Tests.{eq-eqb, ne-eqb}
 use lib.Dec.{ltb, eqb}
 use lib.ListN.{length, getD, replicate}
-use Rattle.paper.specs.Vocabulary.{every, maxTo}
 use Rattle.paper.specs.Numbers.{mostTasks, mostTicks, rec, perTask, countsInRange, recordsInRange, assignmentHolds, assigned, Assignment}
-use Rattle.paper.specs.Regions.{listOf, wordsInRange, recordRegionsHold, allRegionsHold}
-use Rattle.paper.specs.Analysis.{Tasks, tasksOf, before, load}
+use Rattle.paper.specs.Regions.{wordsInRange, recordRegionsHold, allRegionsHold}
+use Rattle.paper.specs.Analysis.{Tasks, tasksOf}
 use Rattle.paper.specs.Points.{longestRegion, lastRegion, Chunks, chunksOf, alpha, beforeLast, startsInTime, pointsPass}
 use Rattle.paper.specs.Refusals.{firstOf, fitAsks}
 use Rattle.paper.specs.Answers.{fitFor, verdictFor, pointsFor, pointsAnswer}
 use Rattle.paper.specs.declared.Table.{Table}
-use Rattle.paper.specs.declared.Record.{Record}
 use Rattle.paper.specs.declared.Refusal.{Refusal}
 use Rattle.paper.specs.declared.Outcome.{Outcome}
 use Rattle.paper.specs.declared.Outcome.the-variants.{Done, Refused}

@@ -57,7 +57,8 @@ fn last_region(r: Record, own: &[u32], catalogue: &[u32]) -> u64
     ensures { λ x. ⌜ x ≡ lastRegion (now (own .entry)) (now (catalogue .entry)) r ⌝ }
 {
     let source = r.source;
-    let end = r.first as u64 + r.count as u64;
+    let count = r.count as u64;
+    let end = r.first as u64 + count;
     let at = jobs::less(end, 1) as usize;
     match source {
         Source::Own => regions::word(own, at) as u64,

@@ -17,7 +17,7 @@ use Rattle.points.proofs.all_points.Statement.{statement}
 use Rattle.points.proofs.all_points.Tie as tie
 
 abbrev Inv-loop : tie.InvT-loop
-Inv-loop n y p regions own catalogue rs tasks₀ i₀ tasks i = 
+Inv-loop n y p regions own catalogue rs tasks₀ i₀ tasks i =
     (i ≤ n) × (tasks ≡ perTask i (λ k. verdictFor (pointsPass (tasksBy n y) (rankedBy p) (chunksBy regions (λ k. lastRegion own catalogue (rec rs k))) k)) (verdictFor false))
 
 abbrev μ-loop : tie.MeasureT-loop
@@ -39,7 +39,7 @@ last-region-requires : tie.Need-last-region-requires Inv-loop μ-loop
 last-region-requires c κs = search needs
 
 task-passes-requires : tie.Need-task-passes-requires Inv-loop μ-loop
-task-passes-requires c κs = 
+task-passes-requires c κs =
     let s = c .before .before .before .before .before .before .before in
     (s .pre .0, c .before .before .loop-test .taken, s .pre .1)
 
@@ -56,7 +56,7 @@ loop-less : tie.Need-loop-less Inv-loop μ-loop
 loop-less c = omega arith
 
 loop-again : tie.Need-loop-again Inv-loop μ-loop
-loop-again c = 
+loop-again c =
     let l = c .before .before .before .before .before .loop in
     let a = c .before .before .before .before .before .before .before .before .before .args in (
       omega arith,

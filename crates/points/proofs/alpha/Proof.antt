@@ -11,10 +11,6 @@ use Rattle.laws.proofs.Every.{at-end}
 use Rattle.laws.proofs.Sums.{max-none, max-turn}
 use Rattle.points.proofs.alpha.Statement.{statement}
 use Rattle.points.proofs.alpha.Tie as tie
-use Rattle.points.proofs.alpha.Reads as reads
-use Rattle.points.proofs.alpha.Lts as lts
-use Rattle.jobs.proofs.larger.Reads as larger-reads
-use Rattle.points.proofs.lower_part.Reads as lower-part-reads
 
 abbrev Inv-loop : tie.InvT-loop
 Inv-loop n p regions i own most₀ k₀ most k = (k ≤ n) × (most ≡ maxTo k (λ k. cond (ltb own (getD p k 0)) (getD regions k 0) 0))
@@ -56,7 +52,7 @@ loop-less : tie.Need-loop-less Inv-loop μ-loop
 loop-less c = omega arith
 
 loop-again : tie.Need-loop-again Inv-loop μ-loop
-loop-again c = 
+loop-again c =
     let l = c .before .before .before .before .before .loop in
     (omega arith, c .larger .ensures ∙ max-turn (l .k) _ (l .inv .1) (c .before .lower-part .ensures))
 

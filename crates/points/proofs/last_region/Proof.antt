@@ -1,19 +1,16 @@
+-- The word before the end of the regions, in the list that the record names.
 use borrow.Author.Needs.{needs}
 use mathlib.Core.Path.{ap₂, sym, _∙_}
 use lib.ListN.{getD}
 use Rattle.paper.specs.Regions.{listOf}
 use Rattle.points.proofs.last_region.Statement.{statement}
 use Rattle.points.proofs.last_region.Tie as tie
-use Rattle.points.proofs.last_region.Reads as reads
-use Rattle.points.proofs.last_region.Lts as lts
-use Rattle.jobs.proofs.less.Reads as less-reads
-use Rattle.regions.proofs.word.Reads as word-reads
+
+cast-count : tie.Need-cast-count
+cast-count c = search needs
 
 cast-end : tie.Need-cast-end
 cast-end c = search needs
-
-cast-end-2 : tie.Need-cast-end-2
-cast-end-2 c = search needs
 
 add-end : tie.Need-add-end
 add-end c = search needs
@@ -40,12 +37,12 @@ cast-result-2 : tie.Need-cast-result-2
 cast-result-2 c = search needs
 
 returns : tie.Need-returns
-returns c = 
+returns c =
     let a = c .before .before .before .before .before .before .before .before .args in
     c .word .ensures ∙ ap₂ (λ s at. getD (listOf s (a .own .now) (a .catalogue .now)) at 0) (sym (c .before .enum-told .given .1)) (c .before .before .before .less .ensures)
 
 returns-2 : tie.Need-returns-2
-returns-2 c = 
+returns-2 c =
     let a = c .before .before .before .before .before .before .before .before .args in
     c .word2 .ensures ∙ ap₂ (λ s at. getD (listOf s (a .own .now) (a .catalogue .now)) at 0) (sym (c .before .enum-told2 .given .1)) (c .before .before .before .less .ensures)
 
@@ -53,8 +50,8 @@ pub last-region-spec : {M : Type 1} → statement M
 last-region-spec =
     tie.close
     (tie.spec
+    cast-count
     cast-end
-    cast-end-2
     add-end
     less-requires
     enum-told

@@ -9,10 +9,6 @@ use Rattle.laws.proofs.Every.{at-end}
 use Rattle.laws.proofs.Sums.{max-none, max-turn}
 use Rattle.points.proofs.longest.Statement.{statement}
 use Rattle.points.proofs.longest.Tie as tie
-use Rattle.points.proofs.longest.Reads as reads
-use Rattle.points.proofs.longest.Lts as lts
-use Rattle.jobs.proofs.larger.Reads as larger-reads
-use Rattle.regions.proofs.word.Reads as word-reads
 
 abbrev Inv-loop : tie.InvT-loop
 Inv-loop list first count most₀ i₀ most i = (i ≤ count) × (most ≡ maxTo i (λ i. getD list (first + i) 0))
@@ -42,7 +38,7 @@ loop-less : tie.Need-loop-less Inv-loop μ-loop
 loop-less c = omega arith
 
 loop-again : tie.Need-loop-again Inv-loop μ-loop
-loop-again c = 
+loop-again c =
     let l = c .before .before .before .loop in
     (omega arith, c .larger .ensures ∙ max-turn (l .i) _ (l .inv .1) (c .before .word .ensures))
 

@@ -27,12 +27,12 @@ longest-requires-2 : tie.Need-longest-requires-2
 longest-requires-2 c κs = search needs
 
 returns : tie.Need-returns
-returns c = 
+returns c =
     let a = c .before .before .before .before .before .before .before .args in
     c .longest .ensures ∙ ap (λ s. maxTo (a .r .count) (λ i. getD (listOf s (a .own .now) (a .catalogue .now)) (a .r .first + i) 0)) (sym (c .before .enum-told .given .1))
 
 returns-2 : tie.Need-returns-2
-returns-2 c = 
+returns-2 c =
     let a = c .before .before .before .before .before .before .before .args in
     c .longest2 .ensures ∙ ap (λ s. maxTo (a .r .count) (λ i. getD (listOf s (a .own .now) (a .catalogue .now)) (a .r .first + i) 0)) (sym (c .before .enum-told2 .given .1))
 

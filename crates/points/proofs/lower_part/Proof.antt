@@ -1,8 +1,7 @@
+-- By the one test.
 use borrow.Author.Tests.{lt-ltb, le-ltb}
 use Rattle.points.proofs.lower_part.Statement.{statement}
 use Rattle.points.proofs.lower_part.Tie as tie
-use Rattle.points.proofs.lower_part.Reads as reads
-use Rattle.points.proofs.lower_part.Lts as lts
 
 returns : tie.Need-returns
 returns c = rw (lt-ltb _ _ (c .if1 .taken))

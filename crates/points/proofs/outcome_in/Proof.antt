@@ -1,10 +1,9 @@
+-- By the case of the answer.
 use borrow.Author.Needs.{needs}
 use mathlib.Core.Path.{ap, sym}
 use Rattle.points.specs.Chunks.{outcomeIn}
 use Rattle.points.proofs.outcome_in.Statement.{statement}
 use Rattle.points.proofs.outcome_in.Tie as tie
-use Rattle.points.proofs.outcome_in.Reads as reads
-use Rattle.points.proofs.outcome_in.Lts as lts
 
 enum-known-check : tie.Need-enum-known-check
 enum-known-check c = search needs

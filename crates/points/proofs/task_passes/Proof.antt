@@ -1,6 +1,5 @@
 -- Alpha is 0, or the last region must start in time.
 use borrow.Author.Needs.{needs}
-use mathlib.Core.Path.{_≡_}
 use native.Mathlib.Omega.{arith}
 use denote.Ref.{now}
 use Rattle.paper.specs.Points.{alpha}
@@ -15,20 +14,20 @@ alpha-requires c κs = search needs
 
 returns : tie.Need-returns
 unfolding alpha
-returns c = 
+returns c =
     let a = c .before .before .args in
     passes-alone (tasksBy (a .n) (now (a .y))) (rankedBy (now (a .p))) (chunksBy (now (a .regions)) (λ _. a .q)) (a .i) (c .before .alpha .ensures) (c .if1 .taken)
 
 starts-in-time-requires : tie.Need-starts-in-time-requires
 unfolding alpha
-starts-in-time-requires c κs = 
+starts-in-time-requires c κs =
     let s = c .before .before in
     let a = s .args in
     (s .pre .0, s .pre .1, omega (arith, c .if1 .left), omega (arith, c .before .alpha .ensures, alpha-short (tasksBy (a .n) (now (a .y))) (rankedBy (now (a .p))) (now (a .regions)) (λ _. a .q) (a .i) (s .pre .2)))
 
 returns-2 : tie.Need-returns-2
 unfolding alpha
-returns-2 c = 
+returns-2 c =
     let a = c .before .before .before .args in
     passes-started (tasksBy (a .n) (now (a .y))) (rankedBy (now (a .p))) (chunksBy (now (a .regions)) (λ _. a .q)) (a .i) (c .before .before .alpha .ensures) (c .before .if1 .left) (c .starts-in-time .ensures)
 

@@ -1,7 +1,6 @@
+-- By the one test.
 use Rattle.points.proofs.verdict.Statement.{statement}
 use Rattle.points.proofs.verdict.Tie as tie
-use Rattle.points.proofs.verdict.Reads as reads
-use Rattle.points.proofs.verdict.Lts as lts
 
 returns : tie.Need-returns
 returns c = rw (c .if1 .taken)

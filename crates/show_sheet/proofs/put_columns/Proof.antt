@@ -7,10 +7,10 @@ use Rattle.show_sheet.proofs.put_columns.Statement.{statement}
 use Rattle.show_sheet.proofs.put_columns.Tie as tie
 
 abbrev Inv-loop : tie.InvT-loop
-Inv-loop buf₀ at f row widths end₀ c₀ buf end c = (length buf ≡ length buf₀) × (end ≤ length buf₀) × (c ≤ 11)
+Inv-loop buf₀ at f row widths end₀ c₀ buf end c = (length buf ≡ length buf₀) × (end ≤ length buf₀) × (c ≤ 12)
 
 abbrev μ-loop : tie.MeasureT-loop
-μ-loop buf₀ at f row widths end₀ c₀ buf end c = 11 - c
+μ-loop buf₀ at f row widths end₀ c₀ buf end c = 12 - c
 
 loop-holds : tie.Need-loop-holds Inv-loop μ-loop
 loop-holds c = search needs
