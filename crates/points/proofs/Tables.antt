@@ -1,58 +1,39 @@
 -- What is worked out on a table's columns is what the paper says of its records.
-use Prim.Native.Nat.{ℕ, _≤_, _<_}
+use Prim.Native.Nat.{ℕ, _<_}
 use mathlib.Core.Path.{_≡_, refl, ap, ap₂, sym, _∙_}
 use mathlib.Core.Bool.{Bool, true, false, _||_, cond}
-use mathlib.Core.List.{List}
-use borrow.Author.Tests.{eq-eqb, ne-eqb}
+use mathlib.Core.List.{List, [], _∷_}
 use lib.Dec.{ltb, eqb}
 use lib.ListN.{length, getD, replicate}
 use Rattle.paper.specs.Numbers.{mostTasks, mostTicks, rec, perTask, countsInRange, recordsInRange, assignmentHolds, assigned, Assignment}
 use Rattle.paper.specs.Regions.{wordsInRange, recordRegionsHold, allRegionsHold}
-use Rattle.paper.specs.Analysis.{Tasks, tasksOf}
-use Rattle.paper.specs.Points.{longestRegion, lastRegion, Chunks, chunksOf, alpha, beforeLast, startsInTime, pointsPass}
-use Rattle.paper.specs.Refusals.{firstOf, fitAsks}
+use Rattle.paper.specs.Analysis.{tasksOf}
+use Rattle.paper.specs.Lengths.{slack, tolerance, lowestBelowZero}
+use Rattle.paper.specs.Points.{longestRegion, lastRegion, chunksOf, alpha, beforeLast, startsInTime, pointsPass}
+use Rattle.paper.specs.Refusals.{firstOf, toleranceBelowZero}
 use Rattle.paper.specs.Answers.{fitFor, verdictFor, pointsFor, pointsAnswer}
 use Rattle.paper.specs.declared.Table.{Table}
 use Rattle.paper.specs.declared.Refusal.{Refusal}
 use Rattle.paper.specs.declared.Outcome.{Outcome}
 use Rattle.paper.specs.declared.Outcome.the-variants.{Done, Refused}
 use Rattle.paper.specs.declared.PointVerdict.{PointVerdict}
+use Rattle.paper.specs.declared.PointsAnswer.{PointsAnswer}
 use Rattle.paper.proofs.Tests.{both, every-says}
 use Rattle.paper.proofs.Asks.{met}
 use Rattle.paper.proofs.Points.{regions-say}
-use Rattle.laws.proofs.Sums.{max-same, max-bound, part-bound}
+use Rattle.laws.proofs.Sums.{max-same, max-bound}
 use Rattle.laws.proofs.Lists.{per-task-at, per-task-same}
 use Rattle.columns.specs.Columns.{columnOf, columnsOf, tasksBy, rankedBy, Ranged}
 use Rattle.columns.specs.declared.Column.the-variants.{Priority}
 use Rattle.columns.proofs.Tables.{ranged, tasks-by, assigned-by}
-use Rattle.checks.proofs.Meaning.{counts-say}
-use Rattle.points.specs.Chunks.{outcomeIn, Short, Brief, chunksBy, verdictsOf}
+use Rattle.checks.proofs.Asks.{first-passed, first-refused}
+use Rattle.point_test.specs.Chunks.{Short, chunksBy}
+use Rattle.lengths.specs.Stages.{earlyAsks}
+use Rattle.lengths.proofs.Outcomes.{early-done}
+use Rattle.points.specs.Stages.{Brief, verdictsOf, pointsLeft, turnedAway}
 
--- alpha of a column of the longest regions is no longer than a region may be
-pub alpha-short : (y : Tasks) (a : Assignment) (xs : List ℕ) (last : ℕ → ℕ) (i : ℕ) → Short (y .n) xs → alpha y a (chunksBy xs last) i ≤ mostTicks
-unfolding alpha
-alpha-short y a xs last i h = max-bound (y .n) mostTicks _ (λ k l. part-bound (ltb (a .p i) (a .p k)) (h k l))
-
--- a task passes by alpha alone, or by its t
-module _ (y : Tasks) (a : Assignment) (g : Chunks) (i : ℕ) {x : ℕ} (e : x ≡ alpha y a g i) where
-  pub passes-alone : x ≡ 0 → true ≡ pointsPass y a g i
-  unfolding pointsPass
-  passes-alone z = rw (eq-eqb (alpha y a g i) 0 (sym e ∙ z))
-
-  pub passes-started : (x ≡ 0 → ⊥) → {b : Bool} → b ≡ startsInTime y a i (g .last i) x → b ≡ pointsPass y a g i
-  unfolding pointsPass
-  passes-started z h = rw (ne-eqb (alpha y a g i) 0 (λ q. z (e ∙ q)), ← e) h
-
--- only the task's own last region counts
-pub passes-last : (y : Tasks) (a : Assignment) (xs : List ℕ) (last : ℕ → ℕ) (i : ℕ) {q : ℕ} → q ≡ last i
-    → pointsPass y a (chunksBy xs (λ _. q)) i ≡ pointsPass y a (chunksBy xs last) i
-unfolding pointsPass alpha
-passes-last y a xs last i e = rw e
-
--- the columns of a table stand for its records; thresholds play no part
-module _ (t : Table) (own catalogue : List ℕ) {ys ps xs : List ℕ} (full : length (t .records) ≡ mostTasks)
-    (y : ys ≡ columnsOf (t .records)) (p : ps ≡ columnOf (t .records) Priority)
-    (x : xs ≡ perTask (t .n) (λ k. longestRegion own catalogue (rec (t .records) k)) 0) where
+-- A column of the longest regions.
+module _ (t : Table) (own catalogue : List ℕ) {xs : List ℕ} (x : xs ≡ perTask (t .n) (λ k. longestRegion own catalogue (rec (t .records) k)) 0) where
   longest-at : (k : ℕ) → k < t .n → getD xs k 0 ≡ longestRegion own catalogue (rec (t .records) k)
   longest-at k l = rw x (per-task-at (t .n) (λ k. longestRegion own catalogue (rec (t .records) k)) 0 0 k l)
 
@@ -63,29 +44,42 @@ module _ (t : Table) (own catalogue : List ℕ) {ys ps xs : List ℕ} (full : le
   unfolding alpha
   same-alpha a last i = max-same (t .n) _ _ (λ k l. ap (λ (x : ℕ). cond (ltb (a .p i) (a .p k)) x 0) (longest-at k l))
 
-  pub verdicts-by : verdictsOf (tasksBy (t .n) ys) (rankedBy ps) (chunksBy xs (λ k. lastRegion own catalogue (rec (t .records) k)))
+-- The columns of a table stand for its records; thresholds play no part.
+module _ (t : Table) {ys ps : List ℕ} (full : length (t .records) ≡ mostTasks) (y : ys ≡ columnsOf (t .records)) (p : ps ≡ columnOf (t .records) Priority) where
+  pub low-by : {low : ℕ} → low ≡ lowestBelowZero (tasksBy (t .n) ys) (rankedBy ps) → low ≡ lowestBelowZero (tasksOf (t .records) (t .n)) (assigned (t .records))
+  unfolding lowestBelowZero tolerance slack
+  low-by e = e ∙ rw (y, p) (ap₂ lowestBelowZero (tasks-by (t .records) (t .n) full) (assigned-by (t .records) full))
+
+  pub verdicts-by : (own catalogue : List ℕ) {xs : List ℕ} → xs ≡ perTask (t .n) (λ k. longestRegion own catalogue (rec (t .records) k)) 0
+      → verdictsOf (tasksBy (t .n) ys) (rankedBy ps) (chunksBy xs (λ k. lastRegion own catalogue (rec (t .records) k)))
       ≡ verdictsOf (tasksOf (t .records) (t .n)) (assigned (t .records)) (chunksOf (t .records) own catalogue)
   unfolding pointsPass alpha startsInTime beforeLast
-  verdicts-by =
+  verdicts-by own catalogue {xs} x =
       let g = chunksBy xs (λ k. lastRegion own catalogue (rec (t .records) k)) in
       rw (y, p) (ap₂ (λ z a. verdictsOf z a g) (tasks-by (t .records) (t .n) full) (assigned-by (t .records) full))
-      ∙ per-task-same (t .n) _ _ _ (λ k l. ap (λ (x : ℕ). verdictFor (eqb x 0 || startsInTime (tasksOf (t .records) (t .n)) (assigned (t .records)) k (g .last k) x)) (same-alpha (assigned (t .records)) (g .last) k))
+      ∙ per-task-same (t .n) _ _ _ (λ k l. ap (λ (x : ℕ). verdictFor (eqb x 0 || startsInTime (tasksOf (t .records) (t .n)) (assigned (t .records)) k (g .last k) x)) (same-alpha t own catalogue x (assigned (t .records)) (g .last) k))
 
--- the refusals are the region check's
-pub outcome-is : (o : Outcome) (fits : Bool) → outcomeIn (fitFor o fits) ≡ o
-outcome-is Done true = refl
-outcome-is Done false = refl
-outcome-is (Refused r) fits = refl
-
+-- From what a stage found to the answer of the call.
 module _ (t : Table) (own catalogue : List ℕ) where
-  pub refused-is : (why : Refusal) (xs : List PointVerdict) → firstOf (fitAsks t own catalogue) ≡ Refused why → xs ≡ replicate mostTasks (verdictFor false)
-      → record { outcome = Refused why; tasks = xs } ≡ pointsAnswer t own catalogue
-  refused-is why xs e q =
-      ap (λ xs. record { outcome = Refused why; tasks = xs }) q
-      ∙ ap (λ o. pointsFor o (t .n) (pointsPass (tasksOf (t .records) (t .n)) (assigned (t .records)) (chunksOf (t .records) own catalogue))) (sym e)
+  abbrev answerBy : Outcome → PointsAnswer
+  answerBy o = pointsFor o (t .n) (pointsPass (tasksOf (t .records) (t .n)) (assigned (t .records)) (chunksOf (t .records) own catalogue))
 
-  -- a call that is done: the analysis may run on its table
-  module _ (e : firstOf (fitAsks t own catalogue) ≡ Done) where
+  pub refused-by : {o : Outcome} (why : Refusal) → o ≡ Refused why → turnedAway why ≡ answerBy o
+  refused-by why e = ap answerBy (sym e)
+
+  pub done-by : {o : Outcome} (xs : List PointVerdict) → o ≡ Done → xs ≡ verdictsOf (tasksOf (t .records) (t .n)) (assigned (t .records)) (chunksOf (t .records) own catalogue)
+      → record { outcome = Done; tasks = xs } ≡ answerBy o
+  done-by xs e q = ap (λ xs. record { outcome = Done; tasks = xs }) q ∙ ap answerBy (sym e)
+
+  -- what is asked before the tolerances is the answer, or what is left is
+  pub early-refused : (why : Refusal) → firstOf (earlyAsks t own catalogue) ≡ Refused why → turnedAway why ≡ pointsAnswer t own catalogue
+  early-refused why e = refused-by why (first-refused (earlyAsks t own catalogue) (toleranceBelowZero t ∷ []) why e)
+
+  module _ (e : firstOf (earlyAsks t own catalogue) ≡ Done) where
+    pub early-passed : pointsLeft t own catalogue ≡ pointsAnswer t own catalogue
+    early-passed = ap answerBy (sym (first-passed (earlyAsks t own catalogue) (toleranceBelowZero t ∷ []) e))
+
+    -- the analysis may run on its table
     pub in-range : Ranged (tasksOf (t .records) (t .n)) × Brief t own catalogue
     unfolding allRegionsHold
     in-range =
@@ -94,14 +88,8 @@ module _ (t : Table) (own catalogue : List ℕ) where
         let a = met (assignmentHolds (t .records) (t .n)) _ _ (r .1) in
         let h = met (allRegionsHold (t .records) (t .n) own catalogue) _ _ (a .1) in
         let w = both (wordsInRange own 0 (length own)) _ (h .0) in (
-          ranged (t .records) (t .n) (counts-say (t .n) (length own) (c .0) .tasks) (r .0),
+          early-done t own catalogue e,
           λ k l.
               let held = regions-say _ _ _ _ (every-says (t .n) (λ k. recordRegionsHold own catalogue (rec (t .records) k)) (w .1) k l) in
               max-bound (rec (t .records) k .count) mostTicks _ (λ i m. held .words i m .1),
         )
-
-    pub done-is : (xs : List PointVerdict) → xs ≡ verdictsOf (tasksOf (t .records) (t .n)) (assigned (t .records)) (chunksOf (t .records) own catalogue)
-        → record { outcome = Done; tasks = xs } ≡ pointsAnswer t own catalogue
-    done-is xs q =
-        ap (λ xs. record { outcome = Done; tasks = xs }) q
-        ∙ ap (λ o. pointsFor o (t .n) (pointsPass (tasksOf (t .records) (t .n)) (assigned (t .records)) (chunksOf (t .records) own catalogue))) (sym e)

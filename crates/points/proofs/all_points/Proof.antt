@@ -11,8 +11,8 @@ use Rattle.paper.specs.Answers.{verdictFor}
 use Rattle.laws.proofs.Every.{at-end}
 use Rattle.laws.proofs.Lists.{per-task-none, per-task-turn}
 use Rattle.columns.specs.Columns.{tasksBy, rankedBy}
-use Rattle.points.specs.Chunks.{chunksBy}
-use Rattle.points.proofs.Tables.{passes-last}
+use Rattle.point_test.specs.Chunks.{chunksBy}
+use Rattle.point_test.proofs.Passes.{passes-last}
 use Rattle.points.proofs.all_points.Statement.{statement}
 use Rattle.points.proofs.all_points.Tie as tie
 

@@ -4,10 +4,10 @@ use native.Mathlib.Omega.{arith}
 use denote.Ref.{now}
 use Rattle.paper.specs.Points.{alpha}
 use Rattle.columns.specs.Columns.{tasksBy, rankedBy}
-use Rattle.points.specs.Chunks.{chunksBy}
-use Rattle.points.proofs.Tables.{alpha-short, passes-alone, passes-started}
-use Rattle.points.proofs.task_passes.Statement.{statement}
-use Rattle.points.proofs.task_passes.Tie as tie
+use Rattle.point_test.specs.Chunks.{chunksBy}
+use Rattle.point_test.proofs.Passes.{alpha-short, passes-alone, passes-started}
+use Rattle.point_test.proofs.task_passes.Statement.{statement}
+use Rattle.point_test.proofs.task_passes.Tie as tie
 
 alpha-requires : tie.Need-alpha-requires
 alpha-requires c κs = search needs

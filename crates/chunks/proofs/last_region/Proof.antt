@@ -3,8 +3,8 @@ use borrow.Author.Needs.{needs}
 use mathlib.Core.Path.{ap₂, sym, _∙_}
 use lib.ListN.{getD}
 use Rattle.paper.specs.Regions.{listOf}
-use Rattle.points.proofs.last_region.Statement.{statement}
-use Rattle.points.proofs.last_region.Tie as tie
+use Rattle.chunks.proofs.last_region.Statement.{statement}
+use Rattle.chunks.proofs.last_region.Tie as tie
 
 cast-count : tie.Need-cast-count
 cast-count c = search needs

@@ -7,8 +7,8 @@ use lib.ListN.{getD}
 use Rattle.paper.specs.Vocabulary.{maxTo}
 use Rattle.laws.proofs.Every.{at-end}
 use Rattle.laws.proofs.Sums.{max-none, max-turn}
-use Rattle.points.proofs.longest.Statement.{statement}
-use Rattle.points.proofs.longest.Tie as tie
+use Rattle.chunks.proofs.longest.Statement.{statement}
+use Rattle.chunks.proofs.longest.Tie as tie
 
 abbrev Inv-loop : tie.InvT-loop
 Inv-loop list first count most₀ i₀ most i = (i ≤ count) × (most ≡ maxTo i (λ i. getD list (first + i) 0))

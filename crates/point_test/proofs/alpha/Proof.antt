@@ -9,8 +9,8 @@ use lib.ListN.{getD}
 use Rattle.paper.specs.Vocabulary.{maxTo}
 use Rattle.laws.proofs.Every.{at-end}
 use Rattle.laws.proofs.Sums.{max-none, max-turn}
-use Rattle.points.proofs.alpha.Statement.{statement}
-use Rattle.points.proofs.alpha.Tie as tie
+use Rattle.point_test.proofs.alpha.Statement.{statement}
+use Rattle.point_test.proofs.alpha.Tie as tie
 
 abbrev Inv-loop : tie.InvT-loop
 Inv-loop n p regions i own most₀ k₀ most k = (k ≤ n) × (most ≡ maxTo k (λ k. cond (ltb own (getD p k 0)) (getD regions k 0) 0))

@@ -5,8 +5,8 @@ use mathlib.Core.Path.{ap, sym, _∙_}
 use lib.ListN.{getD}
 use Rattle.paper.specs.Vocabulary.{maxTo}
 use Rattle.paper.specs.Regions.{listOf}
-use Rattle.points.proofs.longest_region.Statement.{statement}
-use Rattle.points.proofs.longest_region.Tie as tie
+use Rattle.chunks.proofs.longest_region.Statement.{statement}
+use Rattle.chunks.proofs.longest_region.Tie as tie
 
 cast-first : tie.Need-cast-first
 cast-first c = search needs

@@ -28,13 +28,17 @@ module _ (y : Tasks) (a : Assignment) (i q blocked : ℕ) where
     unfolding side work beforeLast
     side-is x = let z : x + 0 ≡ x = omega arith in rw z (omega arith)
 
-    pub start-rises : 1 ≤ blocked → base ≤ 2 * mostTicks → Rises y a (startBy (a .p i) base) 1
-    start-rises some few = record { base = omega arith; edge = zero-le; off = zero-le; rise = omega (arith, side-is 1) }
+    need-some : 1 ≤ base → 1 ≤ need 1
+    unfolding beforeLast
+    need-some some = omega arith
 
-    pub start-is : 1 ≤ blocked → (latest : ℕ) → latest ≡ y .d i - y .j i - q → latest ≤ horizon
+    pub start-rises : 1 ≤ base → base ≤ 2 * mostTicks → Rises y a (startBy (a .p i) base) 1
+    start-rises some few = record { base = omega arith; edge = zero-le; off = zero-le; rise = omega (arith, side-is 1, need-some some) }
+
+    pub start-is : 1 ≤ base → (latest : ℕ) → latest ≡ y .d i - y .j i - q → latest ≤ horizon
         → startsInTime y a i q blocked ≡ within (solution y a (startBy (a .p i) base) 1) latest
     unfolding startsInTime solution
     start-is some latest l near =
         rw (← l)
-        (some-least need latest need-le (omega arith) near
+        (some-least need latest need-le (need-some some) near
         ∙ ap (λ x. within x latest) (least-same _ _ 1 horizon (λ x _. ap (eqb x) (sym (side-is x)))))

@@ -1,7 +1,7 @@
 -- By the one test.
 use borrow.Author.Tests.{lt-ltb, le-ltb}
-use Rattle.points.proofs.lower_part.Statement.{statement}
-use Rattle.points.proofs.lower_part.Tie as tie
+use Rattle.point_test.proofs.lower_part.Statement.{statement}
+use Rattle.point_test.proofs.lower_part.Tie as tie
 
 returns : tie.Need-returns
 returns c = rw (lt-ltb _ _ (c .if1 .taken))

@@ -9,9 +9,9 @@ use Rattle.paper.specs.Analysis.{within}
 use Rattle.paper.specs.Points.{startsInTime}
 use Rattle.columns.specs.Columns.{tasksBy, rankedBy}
 use Rattle.climb.specs.Work.{solution}
-use Rattle.points.proofs.Starts.{startBy, start-rises, start-is}
-use Rattle.points.proofs.starts_in_time.Statement.{statement}
-use Rattle.points.proofs.starts_in_time.Tie as tie
+use Rattle.point_test.proofs.Starts.{startBy, start-rises, start-is}
+use Rattle.point_test.proofs.starts_in_time.Statement.{statement}
+use Rattle.point_test.proofs.starts_in_time.Tie as tie
 
 cost-requires : tie.Need-cost-requires
 cost-requires c κs = search needs
@@ -44,6 +44,9 @@ base-is c =
     let a = c .before .before .before .before .before .before .before .args in
     ap (λ x. x + a .blocked) (c .before .before .before .before .before .less .ensures ∙ ap (λ x. x - a .q) (c .before .before .before .before .before .before .cost .ensures))
 
+base-some : (c : tie.After-rank) → 1 ≤ c .before .before .before .before .before .less .result + c .before .before .before .before .before .before .before .args .blocked
+base-some c = rw (base-is c) (c .before .before .before .before .before .before .before .pre .2)
+
 base-few : (c : tie.After-rank) → c .before .before .before .before .before .less .result + c .before .before .before .before .before .before .before .args .blocked ≤ 2 * mostTicks
 base-few c =
     let s = c .before .before .before .before .before .before .before in
@@ -61,7 +64,7 @@ decided : (c : tie.After-rank) → let a = c .before .before .before .before .be
 decided c =
     let s = c .before .before .before .before .before .before .before in
     let a = s .args in
-    start-is (tasksBy (a .n) (now (a .y))) (rankedBy (now (a .p))) (a .i) (a .q) (a .blocked) _ (base-is c) (s .pre .2) _ (latest-is c)
+    start-is (tasksBy (a .n) (now (a .y))) (rankedBy (now (a .p))) (a .i) (a .q) (a .blocked) _ (base-is c) (base-some c) _ (latest-is c)
     (omega (arith, latest-is c, s .pre .0 .deadlines (a .i) (s .pre .1) .1))
 
 add-t15 : tie.Need-add-t15
@@ -71,7 +74,7 @@ solve-requires : tie.Need-solve-requires
 solve-requires c κs =
     let s = c .before .before .before .before .before .before .before in
     let a = s .args in
-    (s .pre .0, start-rises (tasksBy (a .n) (now (a .y))) (rankedBy (now (a .p))) (a .i) (a .q) (a .blocked) _ (base-is c) (s .pre .2) (base-few c))
+    (s .pre .0, start-rises (tasksBy (a .n) (now (a .y))) (rankedBy (now (a .p))) (a .i) (a .q) (a .blocked) _ (base-is c) (base-some c) (base-few c))
 
 enum-known-start : tie.Need-enum-known-start
 enum-known-start c = search needs

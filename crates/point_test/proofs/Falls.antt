@@ -1,0 +1,72 @@
+-- A task falls under 16 exactly where it would not end in time with nothing below it: where no t will do with q and alpha both 0.
+use Prim.Native.Nat.{ℕ, _+_, _-_, _≤_, _<_}
+use mathlib.Core.Path.{_≡_, refl, sym, subst}
+use mathlib.Core.Bool.{Bool, true, false, not, _||_}
+use native.Mathlib.Omega.{arith}
+use borrow.Author.Tests.{leb-true, le-leb, lt-leb}
+use lib.Dec.{T, leb, ltb, leb→le, le→leb}
+use lib.IntN.{pos}
+use lib.Signed.{ltZ, _≤ℤ_}
+use Rattle.paper.specs.Vocabulary.{lowest}
+use Rattle.paper.specs.Numbers.{Assignment}
+use Rattle.paper.specs.Analysis.{Tasks, before, load}
+use Rattle.paper.specs.Lengths.{slack, tolerance, noInstant, lowestBelowZero}
+use Rattle.paper.specs.Points.{beforeLast, startsInTime}
+use Rattle.paper.proofs.Tests.{never, some-says, some-there}
+use Rattle.paper.proofs.Signed.{≤ℤ-trans, ltZ-fails, ltZ-denies}
+use Rattle.paper.proofs.Lengths.{Tolerable, tolerance-bounds, tolerance-reached}
+use Rattle.laws.proofs.Every.{lowest-same}
+use Rattle.laws.proofs.Signed.{pos-sub}
+
+module _ (y : Tasks) (a : Assignment) where
+  module _ (i : ℕ) where
+    -- what the task and all above it take by t
+    abbrev taken : ℕ → ℕ
+    taken t = y .c i + load y (λ j. ltb (a .p j) (a .p i)) (before y t)
+
+    taken-is : (t : ℕ) → beforeLast y a i 0 t + 0 ≡ taken t
+    unfolding beforeLast
+    taken-is t = omega arith
+
+    abbrev test : ℕ → Bool
+    test t = leb (beforeLast y a i 0 t + 0) t
+
+    starts : Tolerable y a i → startsInTime y a i 0 0 ≡ true
+    unfolding startsInTime slack
+    starts w =
+        let r = tolerance-reached y a i (w .instant) in
+        let t = r .0 in
+        let left = rw (r .2) at (w .least) in
+        let done : 0 + taken t ≤ t = leb→le (0 + taken t) t (subst T (pos-sub 0 t (taken t)) (left .le)) in
+        some-there (y .d i - y .j i - 0) test t (r .1 .low) (omega (arith, r .1 .high)) (le-leb (beforeLast y a i 0 t + 0) t (omega (arith, taken-is t, done)))
+
+    tolerable : startsInTime y a i 0 0 ≡ true → Tolerable y a i
+    unfolding startsInTime slack noInstant
+    tolerable e =
+        let r = some-says (y .d i - y .j i - 0) test e in
+        let t = r .0 in
+        let done = leb-true (beforeLast y a i 0 t + 0) t (r .3) in
+        let early : t + y .j i ≤ y .d i = omega (arith, r .1, r .2) in
+        record {
+          instant = lt-leb (y .d i) (y .j i) (omega (arith, r .1));
+          least =
+              ≤ℤ-trans
+              (record { le = subst T (sym (pos-sub 0 t (taken t))) (le→leb (0 + taken t) t (omega (arith, taken-is t, done))) })
+              (tolerance-bounds y a i t (record { low = r .1; high = early }));
+        }
+
+    falls-is : not (startsInTime y a i 0 0) ≡ (noInstant y i || ltZ (tolerance y a i) (pos 0))
+    falls-is = go (startsInTime y a i 0 0) refl
+      where
+        late : startsInTime y a i 0 0 ≡ false → (b c : Bool) → noInstant y i ≡ b → ltZ (tolerance y a i) (pos 0) ≡ c → true ≡ (b || c)
+        late e true c n l = refl
+        late e false true n l = refl
+        late e false false n l = absurd (never _ (starts (record { instant = n; least = ltZ-denies l })) e)
+
+        go : (b : Bool) → startsInTime y a i 0 0 ≡ b → not b ≡ (noInstant y i || ltZ (tolerance y a i) (pos 0))
+        go true e = let w = tolerable e in rw (w .instant, ltZ-fails (w .least))
+        go false e = late e (noInstant y i) (ltZ (tolerance y a i) (pos 0)) refl refl
+
+  pub lowest-is : lowest (y .n) (λ k. not (startsInTime y a k 0 0)) ≡ lowestBelowZero y a
+  unfolding lowestBelowZero
+  lowest-is = lowest-same (y .n) _ _ (λ k _. falls-is k)
