@@ -1,4 +1,4 @@
--- What the last region handed back is: one word, and where it lies in the caller's own memory.
+-- What the last region handed back is: one word, and where it lies in the caller's own memory. On a refusal no word, at the start of the own words; the outcome says which.
 use Prim.Native.Nat.{ℕ, zero, suc}
 use mathlib.Core.Path.{_≡_}
 use mathlib.Core.List.{List}
@@ -13,7 +13,7 @@ pub record IsLast (t : Table) (own catalogue : RefT (List ℕ)) (number : ℕ) (
   pub word : now r ≡ lastWords t (now own) (now catalogue) number
   pub place : LiesIn (sliceOf (regionsSource t (now own) (now catalogue) number) own catalogue) 4 (lastPlace t (now own) (now catalogue) number) r
 
--- the last of `count` words, where there is one
+-- the last of `count` words, as a part of these words; no part where there is none
 abbrev pub lastOf : ℕ → Part
 lastOf zero = noPart
 lastOf (suc k) = record { from = k; count = 1 }

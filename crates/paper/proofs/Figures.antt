@@ -9,7 +9,7 @@ use Rattle.paper.specs.Seal.{sealBit, sealBits, sealByte, sealFrom, seal
 use Rattle.paper.specs.Regions.{regionsHold, allRegionsHold}
 use Rattle.paper.specs.Analysis.{least, before, by, load, blocks, blocking, standing, levelSum, levelOf, startSum, startOf, finishSum, finishOf, finishFrom, job, later, worst, worstFrom, response, reaches, firstReaching, worstJob, withJob, within, taskPasses, passes}
 use Rattle.paper.specs.Lengths.{larger, smaller, largest, slack, tolerance, noInstant, lowestNoInstant, lowestBelowZero, leastOf, allowed, lengthOf, regionsFit, allFit}
-use Rattle.paper.specs.Points.{alpha, beforeLast, startsInTime, pointsPass}
+use Rattle.paper.specs.Points.{alpha, beforeLast, hasTime, pointsPass}
 use Rattle.paper.specs.Rows.{placeOf, rowAssignment, rowHolds}
 use Rattle.paper.specs.Answers.{fitAnswer, pointsAnswer, verdictFor}
 use Rattle.paper.specs.Figures.{Figure, Came, comesOut, figures, numbered, join, those, passingRows, points, pointWords}
@@ -23,13 +23,13 @@ foretold fs = map (λ f. f .comes) fs
 
 -- every figure of the table, as one statement
 pub figures-hold : came-out figures ≡ foretold figures
-unfolding every some listTo lowest sumTo maxTo perTask eachOnce thresholdsHold regionsHold allRegionsHold least before by load blocks blocking standing levelSum levelOf startSum startOf finishSum finishOf finishFrom job later worst worstFrom response reaches firstReaching worstJob withJob within taskPasses passes larger smaller largest slack tolerance noInstant lowestNoInstant lowestBelowZero leastOf allowed lengthOf regionsFit allFit alpha beforeLast startsInTime pointsPass placeOf rowAssignment rowHolds numbered join those passingRows
+unfolding every some listTo lowest sumTo maxTo perTask eachOnce thresholdsHold regionsHold allRegionsHold least before by load blocks blocking standing levelSum levelOf startSum startOf finishSum finishOf finishFrom job later worst worstFrom response reaches firstReaching worstJob withJob within taskPasses passes larger smaller largest slack tolerance noInstant lowestNoInstant lowestBelowZero leastOf allowed lengthOf regionsFit allFit alpha beforeLast hasTime pointsPass placeOf rowAssignment rowHolds numbered join those passingRows
 figures-hold = refl
 
 -- Fixed preemption points let regions be longer than the region check does: the regions of this table don't fit, and all its tasks pass.
 pub points-beyond-lengths : (fitAnswer (points 5 0 0) (pointWords 5) [] ≡ Fit.Unfit)
     × (pointsAnswer (points 5 0 0) (pointWords 5) [] .tasks ≡ perTask 3 (λ _. verdictFor true) (verdictFor false))
-unfolding every some listTo lowest sumTo maxTo perTask eachOnce thresholdsHold regionsHold allRegionsHold before load larger smaller largest slack tolerance noInstant lowestBelowZero leastOf allowed lengthOf regionsFit allFit alpha beforeLast startsInTime pointsPass
+unfolding every some listTo lowest sumTo maxTo perTask eachOnce thresholdsHold regionsHold allRegionsHold before load larger smaller largest slack tolerance noInstant lowestBelowZero leastOf allowed lengthOf regionsFit allFit alpha beforeLast hasTime pointsPass
 points-beyond-lengths = (refl, refl)
 
 -- CRC-16/IBM-3740 over the digits 1 to 9

@@ -13,7 +13,7 @@ use Rattle.paper.specs.Vocabulary.{sumTo, ceilDiv}
 use Rattle.paper.specs.Numbers.{mostTicks, rec, ticksInRange, countsInRange, Assignment}
 use Rattle.paper.specs.Regions.{listOf, wordsInRange, wordsSum, regionsHold, recordRegionsHold}
 use Rattle.paper.specs.Analysis.{Tasks, before, load}
-use Rattle.paper.specs.Points.{lastRegion, Chunks, alpha, beforeLast, startsInTime, pointsPass}
+use Rattle.paper.specs.Points.{lastRegion, Chunks, alpha, beforeLast, hasTime, pointsPass}
 use Rattle.paper.specs.Answers.{regionsOutcome, regionsWords, lastWords}
 use Rattle.paper.specs.declared.Table.{Table}
 use Rattle.paper.specs.declared.Outcome.the-variants.{Done}
@@ -76,15 +76,15 @@ module _ (t : Table) (own catalogue : List ℕ) (number : ℕ) (e : regionsOutco
       ∙ rw (words-counted, e, getD-take (r .count) (drop (r .first) l) (r .count - 1) 0 (omega (arith, held .there)), getD-drop (r .first) l (r .count - 1) 0, place)
 
 -- A t that lets a task pass: from 1 to D(i) − J(i) − q, with (C(i) − q) + sum over p(j) < p(i) of ceil((t + J(j))/T(j))·C(j) + alpha ≤ t.
-pub record Point (y : Tasks) (a : Assignment) (i q blocked t : ℕ) : Type 0 where
+pub record Point (y : Tasks) (a : Assignment) (i q longest t : ℕ) : Type 0 where
   pub low : 1 ≤ t
   pub high : t ≤ y .d i - y .j i - q
-  pub fits : (y .c i - q) + sumTo (y .n) (λ j. cond (ltb (a .p j) (a .p i)) (ceilDiv (t + y .j j) (y .t j) * y .c j) 0) + blocked ≤ t
+  pub fits : (y .c i - q) + sumTo (y .n) (λ j. cond (ltb (a .p j) (a .p i)) (ceilDiv (t + y .j j) (y .t j) * y .c j) 0) + longest ≤ t
 
 -- A task passes exactly where alpha is 0 or there is such a t.
 module _ (y : Tasks) (a : Assignment) (g : Chunks) (i : ℕ) where
-  starts : (startsInTime y a i (g .last i) (alpha y a g i) ≡ true) ↔ ((t : ℕ) × Point y a i (g .last i) (alpha y a g i) t)
-  unfolding startsInTime beforeLast load before
+  starts : (hasTime y a i (g .last i) (alpha y a g i) ≡ true) ↔ ((t : ℕ) × Point y a i (g .last i) (alpha y a g i) t)
+  unfolding hasTime beforeLast load before
   starts = (
     λ e. let r = some-says _ _ e in (r .0, record { low = r .1; high = r .2; fits = leb-true _ _ (r .3) }),
     λ w. some-there _ _ (w .0) (w .1 .low) (w .1 .high) (le-leb _ _ (w .1 .fits)),
@@ -97,7 +97,7 @@ module _ (y : Tasks) (a : Assignment) (g : Chunks) (i : ℕ) where
     λ w. ⊎-elim (λ z. rw (eq-eqb (alpha y a g i) 0 z)) (λ p. rw (starts .1 p) (or-true (eqb (alpha y a g i) 0))) w,
   )
     where
-      either : (b : Bool) → eqb (alpha y a g i) 0 ≡ b → (b || startsInTime y a i (g .last i) (alpha y a g i)) ≡ true
+      either : (b : Bool) → eqb (alpha y a g i) 0 ≡ b → (b || hasTime y a i (g .last i) (alpha y a g i)) ≡ true
           → (alpha y a g i ≡ 0) ⊎ ((t : ℕ) × Point y a i (g .last i) (alpha y a g i) t)
       either true z e = inl (eqb-true _ _ z)
       either false z e = inr (starts .0 e)

@@ -120,7 +120,7 @@ fitAnswer t own catalogue =
     fitFor (firstOf (fitAsks t own catalogue))
     (allFit (t .records) (tasksOf (t .records) (t .n)) (assigned (t .records)) own catalogue)
 
--- Fixed preemption points: for each task, whether it passes; the test is sufficient only, so a "no" is "not shown". The refusals are the region check's
+-- Fixed preemption points: for each task, whether it passes; the test is sufficient only, so a "no" is "not shown"; past n, and on a refusal, nothing is shown either. The refusals are the region check's
 abbrev pub verdictFor : Bool → PointVerdict
 verdictFor passes = record { verdict = cond passes Passes NotShown }
 
@@ -181,7 +181,7 @@ abbrev pub regionsWords : Table → List ℕ → List ℕ → ℕ → List ℕ
 regionsWords t own catalogue number =
     partOf (regionsPlace t own catalogue number) (listOf (regionsSource t own catalogue number) own catalogue)
 
--- the last region: one word of the same list; it asks what the regions ask
+-- the last region: one word of the list that the record names; it asks what the regions ask, 5, 13, then 11 for that record alone, and is empty at the start of the own words on a refusal
 abbrev pub lastPlace : Table → List ℕ → List ℕ → ℕ → Part
 lastPlace t own catalogue number = partFor (regionsOutcome t own catalogue number) (lastPart (rec (t .records) (number - 1)))
 

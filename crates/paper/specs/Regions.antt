@@ -1,4 +1,4 @@
--- Document 01, "A task's regions" (in "The file, bit by bit") and "Parts handed back".
+-- Document 01, "A task's regions" (in "The file, bit by bit") and "Parts handed back"; by document 02 the last region (item 2) and records of edition 2 (item 9).
 use Prim.Native.Nat.{ℕ, zero, suc, _+_, _-_, _*_}
 use mathlib.Core.Bool.{Bool, _&&_, cond}
 use mathlib.Core.List.{List}
@@ -58,7 +58,7 @@ recordPart e k = record { from = 8 + recordSize e * (k - 1); count = recordSize 
 abbrev pub regionsPart : Record → Part
 regionsPart r = record { from = r .first; count = r .count }
 
--- The last region comes back as a one-word part of the list it came from (document 02, item 2)
+-- The last region comes back as a one-word part of the list it came from (document 02, item 2). A task has a region at least, or 11 turns the call away
 abbrev pub lastPart : Record → Part
 lastPart r = record { from = r .first + r .count - 1; count = 1 }
 

@@ -11,7 +11,7 @@ use Rattle.paper.specs.Vocabulary.{lowest}
 use Rattle.paper.specs.Numbers.{Assignment}
 use Rattle.paper.specs.Analysis.{Tasks, before, load}
 use Rattle.paper.specs.Lengths.{slack, tolerance, noInstant, lowestBelowZero}
-use Rattle.paper.specs.Points.{beforeLast, startsInTime}
+use Rattle.paper.specs.Points.{beforeLast, hasTime}
 use Rattle.paper.proofs.Tests.{never, some-says, some-there}
 use Rattle.paper.proofs.Signed.{≤ℤ-trans, ltZ-fails, ltZ-denies}
 use Rattle.paper.proofs.Lengths.{Tolerable, tolerance-bounds, tolerance-reached}
@@ -31,8 +31,8 @@ module _ (y : Tasks) (a : Assignment) where
     abbrev test : ℕ → Bool
     test t = leb (beforeLast y a i 0 t + 0) t
 
-    starts : Tolerable y a i → startsInTime y a i 0 0 ≡ true
-    unfolding startsInTime slack
+    starts : Tolerable y a i → hasTime y a i 0 0 ≡ true
+    unfolding hasTime slack
     starts w =
         let r = tolerance-reached y a i (w .instant) in
         let t = r .0 in
@@ -40,8 +40,8 @@ module _ (y : Tasks) (a : Assignment) where
         let done : 0 + taken t ≤ t = leb→le (0 + taken t) t (subst T (pos-sub 0 t (taken t)) (left .le)) in
         some-there (y .d i - y .j i - 0) test t (r .1 .low) (omega (arith, r .1 .high)) (le-leb (beforeLast y a i 0 t + 0) t (omega (arith, taken-is t, done)))
 
-    tolerable : startsInTime y a i 0 0 ≡ true → Tolerable y a i
-    unfolding startsInTime slack noInstant
+    tolerable : hasTime y a i 0 0 ≡ true → Tolerable y a i
+    unfolding hasTime slack noInstant
     tolerable e =
         let r = some-says (y .d i - y .j i - 0) test e in
         let t = r .0 in
@@ -55,18 +55,18 @@ module _ (y : Tasks) (a : Assignment) where
               (tolerance-bounds y a i t (record { low = r .1; high = early }));
         }
 
-    falls-is : not (startsInTime y a i 0 0) ≡ (noInstant y i || ltZ (tolerance y a i) (pos 0))
-    falls-is = go (startsInTime y a i 0 0) refl
+    falls-is : not (hasTime y a i 0 0) ≡ (noInstant y i || ltZ (tolerance y a i) (pos 0))
+    falls-is = go (hasTime y a i 0 0) refl
       where
-        late : startsInTime y a i 0 0 ≡ false → (b c : Bool) → noInstant y i ≡ b → ltZ (tolerance y a i) (pos 0) ≡ c → true ≡ (b || c)
+        late : hasTime y a i 0 0 ≡ false → (b c : Bool) → noInstant y i ≡ b → ltZ (tolerance y a i) (pos 0) ≡ c → true ≡ (b || c)
         late e true c n l = refl
         late e false true n l = refl
         late e false false n l = absurd (never _ (starts (record { instant = n; least = ltZ-denies l })) e)
 
-        go : (b : Bool) → startsInTime y a i 0 0 ≡ b → not b ≡ (noInstant y i || ltZ (tolerance y a i) (pos 0))
+        go : (b : Bool) → hasTime y a i 0 0 ≡ b → not b ≡ (noInstant y i || ltZ (tolerance y a i) (pos 0))
         go true e = let w = tolerable e in rw (w .instant, ltZ-fails (w .least))
         go false e = late e (noInstant y i) (ltZ (tolerance y a i) (pos 0)) refl refl
 
-  pub lowest-is : lowest (y .n) (λ k. not (startsInTime y a k 0 0)) ≡ lowestBelowZero y a
+  pub lowest-is : lowest (y .n) (λ k. not (hasTime y a k 0 0)) ≡ lowestBelowZero y a
   unfolding lowestBelowZero
   lowest-is = lowest-same (y .n) _ _ (λ k _. falls-is k)

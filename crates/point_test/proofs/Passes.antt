@@ -7,7 +7,7 @@ use borrow.Author.Tests.{eq-eqb, ne-eqb}
 use lib.Dec.{ltb}
 use Rattle.paper.specs.Numbers.{mostTicks, Assignment}
 use Rattle.paper.specs.Analysis.{Tasks}
-use Rattle.paper.specs.Points.{Chunks, alpha, startsInTime, pointsPass}
+use Rattle.paper.specs.Points.{Chunks, alpha, hasTime, pointsPass}
 use Rattle.laws.proofs.Sums.{max-bound, part-bound}
 use Rattle.point_test.specs.Chunks.{Short, chunksBy}
 
@@ -22,7 +22,7 @@ module _ (y : Tasks) (a : Assignment) (g : Chunks) (i : ℕ) {x : ℕ} (e : x �
   unfolding pointsPass
   passes-alone z = rw (eq-eqb (alpha y a g i) 0 (sym e ∙ z))
 
-  pub passes-started : (x ≡ 0 → ⊥) → {b : Bool} → b ≡ startsInTime y a i (g .last i) x → b ≡ pointsPass y a g i
+  pub passes-started : (x ≡ 0 → ⊥) → {b : Bool} → b ≡ hasTime y a i (g .last i) x → b ≡ pointsPass y a g i
   unfolding pointsPass
   passes-started z h = rw (ne-eqb (alpha y a g i) 0 (λ q. z (e ∙ q)), ← e) h
 

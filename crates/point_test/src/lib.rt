@@ -7,7 +7,7 @@ ghost use lib.ListN.{getD};
 ghost use Rattle.paper.specs.Vocabulary.{maxTo};
 ghost use Rattle.paper.specs.Numbers.{mostTasks, mostTicks};
 ghost use Rattle.paper.specs.Lengths.{lowestBelowZero};
-ghost use Rattle.paper.specs.Points.{startsInTime, pointsPass};
+ghost use Rattle.paper.specs.Points.{hasTime, pointsPass};
 ghost use Rattle.columns.specs.Columns.{numberAt, tasksBy, rankedBy, Ranged};
 ghost use Rattle.point_test.specs.Chunks.{Short, chunksBy};
 use climb::Equation;
@@ -37,11 +37,11 @@ fn alpha(n: usize, p: &Numbers, regions: &Numbers, i: usize) -> u64
     most
 }
 
-// Whether the last region, of q ticks, starts early enough. The least t at which all before it is done is climbed to, so that the
-// deadline doesn't say how long this takes.
-fn starts_in_time(n: usize, y: &Tasks, p: &Numbers, i: usize, q: u64, blocked: u64) -> bool
-    requires { ⌜ Ranged (tasksBy n (now y)) × (i < n) × (1 ≤ numberAt 0 (now y) i - q + blocked) × (blocked ≤ mostTicks) ⌝ }
-    ensures { λ b. ⌜ b ≡ startsInTime (tasksBy n (now (y .entry))) (rankedBy (now (p .entry))) i q blocked ⌝ }
+// Whether there is a t: the least at which all is done before the last region, of q ticks, with the longest region of a lower task
+// in front. It is climbed to, so that the deadline doesn't say how long this takes.
+fn has_time(n: usize, y: &Tasks, p: &Numbers, i: usize, q: u64, longest: u64) -> bool
+    requires { ⌜ Ranged (tasksBy n (now y)) × (i < n) × (1 ≤ numberAt 0 (now y) i - q + longest) × (longest ≤ mostTicks) ⌝ }
+    ensures { λ b. ⌜ b ≡ hasTime (tasksBy n (now (y .entry))) (rankedBy (now (p .entry))) i q longest ⌝ }
 {
     let ahead = jobs::less(columns::cost(y, i), q);
     let due = jobs::less(columns::deadline(y, i), columns::jitter(y, i));
@@ -49,7 +49,7 @@ fn starts_in_time(n: usize, y: &Tasks, p: &Numbers, i: usize, q: u64, blocked: u
     let rank = p[i];
     let e = Equation {
         limit: rank,
-        base: ahead + blocked,
+        base: ahead + longest,
         off: 0,
         edge: 0,
     };
@@ -68,7 +68,7 @@ pub fn lowest_below_zero(n: usize, y: &Tasks, p: &Numbers) -> usize
 {
     let mut k: usize = 0;
     while k < n {
-        if !starts_in_time(n, y, p, k, 0, 0) {
+        if !has_time(n, y, p, k, 0, 0) {
             return k + 1;
         }
         k += 1;
@@ -81,9 +81,9 @@ pub fn task_passes(n: usize, y: &Tasks, p: &Numbers, regions: &Numbers, i: usize
     requires { ⌜ Ranged (tasksBy n (now y)) × (i < n) × Short n (now regions) ⌝ }
     ensures { λ b. ⌜ b ≡ pointsPass (tasksBy n (now (y .entry))) (rankedBy (now (p .entry))) (chunksBy (now (regions .entry)) (λ _. q)) i ⌝ }
 {
-    let blocked = alpha(n, p, regions, i);
-    if blocked == 0 {
+    let longest = alpha(n, p, regions, i);
+    if longest == 0 {
         return true;
     }
-    starts_in_time(n, y, p, i, q, blocked)
+    has_time(n, y, p, i, q, longest)
 }

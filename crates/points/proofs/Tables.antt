@@ -9,7 +9,7 @@ use Rattle.paper.specs.Numbers.{mostTasks, mostTicks, rec, perTask, countsInRan
 use Rattle.paper.specs.Regions.{wordsInRange, recordRegionsHold, allRegionsHold}
 use Rattle.paper.specs.Analysis.{tasksOf}
 use Rattle.paper.specs.Lengths.{slack, tolerance, lowestBelowZero}
-use Rattle.paper.specs.Points.{longestRegion, lastRegion, chunksOf, alpha, beforeLast, startsInTime, pointsPass}
+use Rattle.paper.specs.Points.{longestRegion, lastRegion, chunksOf, alpha, beforeLast, hasTime, pointsPass}
 use Rattle.paper.specs.Refusals.{firstOf, toleranceBelowZero}
 use Rattle.paper.specs.Answers.{fitFor, verdictFor, pointsFor, pointsAnswer}
 use Rattle.paper.specs.declared.Table.{Table}
@@ -53,11 +53,11 @@ module _ (t : Table) {ys ps : List ℕ} (full : length (t .records) ≡ mostTask
   pub verdicts-by : (own catalogue : List ℕ) {xs : List ℕ} → xs ≡ perTask (t .n) (λ k. longestRegion own catalogue (rec (t .records) k)) 0
       → verdictsOf (tasksBy (t .n) ys) (rankedBy ps) (chunksBy xs (λ k. lastRegion own catalogue (rec (t .records) k)))
       ≡ verdictsOf (tasksOf (t .records) (t .n)) (assigned (t .records)) (chunksOf (t .records) own catalogue)
-  unfolding pointsPass alpha startsInTime beforeLast
+  unfolding pointsPass alpha hasTime beforeLast
   verdicts-by own catalogue {xs} x =
       let g = chunksBy xs (λ k. lastRegion own catalogue (rec (t .records) k)) in
       rw (y, p) (ap₂ (λ z a. verdictsOf z a g) (tasks-by (t .records) (t .n) full) (assigned-by (t .records) full))
-      ∙ per-task-same (t .n) _ _ _ (λ k l. ap (λ (x : ℕ). verdictFor (eqb x 0 || startsInTime (tasksOf (t .records) (t .n)) (assigned (t .records)) k (g .last k) x)) (same-alpha t own catalogue x (assigned (t .records)) (g .last) k))
+      ∙ per-task-same (t .n) _ _ _ (λ k l. ap (λ (x : ℕ). verdictFor (eqb x 0 || hasTime (tasksOf (t .records) (t .n)) (assigned (t .records)) k (g .last k) x)) (same-alpha t own catalogue x (assigned (t .records)) (g .last) k))
 
 -- From what a stage found to the answer of the call.
 module _ (t : Table) (own catalogue : List ℕ) where

@@ -6,7 +6,7 @@ use native.Mathlib.Omega.{arith}
 use native.Mathlib.Numerals.{add-one}
 use borrow.Author.Count.{below-more}
 use denote.Ref.{now}
-use Rattle.paper.specs.Points.{startsInTime}
+use Rattle.paper.specs.Points.{hasTime}
 use Rattle.paper.proofs.Extremes.{lowest-none, lowest-found}
 use Rattle.columns.specs.Columns.{tasksBy, rankedBy}
 use Rattle.point_test.proofs.Falls.{lowest-is}
@@ -14,7 +14,7 @@ use Rattle.point_test.proofs.lowest_below_zero.Statement.{statement}
 use Rattle.point_test.proofs.lowest_below_zero.Tie as tie
 
 abbrev Inv-loop : tie.InvT-loop
-Inv-loop n y p k₀ k = (k ≤ n) × ((j : ℕ) → j < k → not (startsInTime (tasksBy n y) (rankedBy p) j 0 0) ≡ false)
+Inv-loop n y p k₀ k = (k ≤ n) × ((j : ℕ) → j < k → not (hasTime (tasksBy n y) (rankedBy p) j 0 0) ≡ false)
 
 abbrev μ-loop : tie.MeasureT-loop
 μ-loop n y p k₀ k = n - k
@@ -22,8 +22,8 @@ abbrev μ-loop : tie.MeasureT-loop
 loop-holds : tie.Need-loop-holds Inv-loop μ-loop
 loop-holds c = (omega arith, λ j l. absurd (omega arith))
 
-starts-in-time-requires : tie.Need-starts-in-time-requires Inv-loop μ-loop
-starts-in-time-requires c κs =
+has-time-requires : tie.Need-has-time-requires Inv-loop μ-loop
+has-time-requires c κs =
     let l = c .before .loop in
     let s = c .before .before in
     (s .pre, c .loop-test .taken, omega (arith, s .pre .costs (l .k) (c .loop-test .taken) .0), omega arith)
@@ -38,7 +38,7 @@ returns c =
     let a = d .before .before .args in
     let y = tasksBy (a .n) (now (a .y)) in
     add-one (l .k)
-    ∙ sym (lowest-found (λ k. not (startsInTime y (rankedBy (now (a .p))) k 0 0)) (a .n) (l .k) (d .loop-test .taken) (ap not (sym (c .before .starts-in-time .ensures)) ∙ c .if1 .taken) (l .inv .1))
+    ∙ sym (lowest-found (λ k. not (hasTime y (rankedBy (now (a .p))) k 0 0)) (a .n) (l .k) (d .loop-test .taken) (ap not (sym (c .before .has-time .ensures)) ∙ c .if1 .taken) (l .inv .1))
     ∙ lowest-is y (rankedBy (now (a .p)))
 
 add-k : tie.Need-add-k Inv-loop μ-loop
@@ -52,14 +52,14 @@ loop-again c =
     let d = c .before .before in
     let l = d .before .loop in
     let a = d .before .before .args in
-    (omega arith, below-more (λ j. not (startsInTime (tasksBy (a .n) (now (a .y))) (rankedBy (now (a .p))) j 0 0) ≡ false) (l .k) (l .inv .1) (ap not (sym (c .before .starts-in-time .ensures)) ∙ c .if1 .left))
+    (omega arith, below-more (λ j. not (hasTime (tasksBy (a .n) (now (a .y))) (rankedBy (now (a .p))) j 0 0) ≡ false) (l .k) (l .inv .1) (ap not (sym (c .before .has-time .ensures)) ∙ c .if1 .left))
 
 returns-2 : tie.Need-returns-2 Inv-loop μ-loop
 returns-2 c =
     let l = c .before .loop in
     let a = c .before .before .args in
     let y = tasksBy (a .n) (now (a .y)) in
-    sym (lowest-none (λ k. not (startsInTime y (rankedBy (now (a .p))) k 0 0)) (a .n) (λ j h. l .inv .1 j (omega arith)))
+    sym (lowest-none (λ k. not (hasTime y (rankedBy (now (a .p))) k 0 0)) (a .n) (λ j h. l .inv .1 j (omega arith)))
     ∙ lowest-is y (rankedBy (now (a .p)))
 
 pub lowest-below-zero-spec : {M : Type 1} → statement M
@@ -69,7 +69,7 @@ lowest-below-zero-spec =
     Inv-loop
     μ-loop
     loop-holds
-    starts-in-time-requires
+    has-time-requires
     add-result
     returns
     add-k

@@ -18,9 +18,9 @@ returns c =
     let a = c .before .before .args in
     passes-alone (tasksBy (a .n) (now (a .y))) (rankedBy (now (a .p))) (chunksBy (now (a .regions)) (λ _. a .q)) (a .i) (c .before .alpha .ensures) (c .if1 .taken)
 
-starts-in-time-requires : tie.Need-starts-in-time-requires
+has-time-requires : tie.Need-has-time-requires
 unfolding alpha
-starts-in-time-requires c κs =
+has-time-requires c κs =
     let s = c .before .before in
     let a = s .args in
     (s .pre .0, s .pre .1, omega (arith, c .if1 .left), omega (arith, c .before .alpha .ensures, alpha-short (tasksBy (a .n) (now (a .y))) (rankedBy (now (a .p))) (now (a .regions)) (λ _. a .q) (a .i) (s .pre .2)))
@@ -29,7 +29,7 @@ returns-2 : tie.Need-returns-2
 unfolding alpha
 returns-2 c =
     let a = c .before .before .before .args in
-    passes-started (tasksBy (a .n) (now (a .y))) (rankedBy (now (a .p))) (chunksBy (now (a .regions)) (λ _. a .q)) (a .i) (c .before .before .alpha .ensures) (c .before .if1 .left) (c .starts-in-time .ensures)
+    passes-started (tasksBy (a .n) (now (a .y))) (rankedBy (now (a .p))) (chunksBy (now (a .regions)) (λ _. a .q)) (a .i) (c .before .before .alpha .ensures) (c .before .if1 .left) (c .has-time .ensures)
 
 pub task-passes-spec : {M : Type 1} → statement M
-task-passes-spec = tie.close (tie.spec alpha-requires returns starts-in-time-requires returns-2)
+task-passes-spec = tie.close (tie.spec alpha-requires returns has-time-requires returns-2)

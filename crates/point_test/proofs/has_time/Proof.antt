@@ -6,12 +6,12 @@ use borrow.Author.Needs.{needs}
 use denote.Ref.{now}
 use Rattle.paper.specs.Numbers.{mostTicks}
 use Rattle.paper.specs.Analysis.{within}
-use Rattle.paper.specs.Points.{startsInTime}
+use Rattle.paper.specs.Points.{hasTime}
 use Rattle.columns.specs.Columns.{tasksBy, rankedBy}
 use Rattle.climb.specs.Work.{solution}
 use Rattle.point_test.proofs.Starts.{startBy, start-rises, start-is}
-use Rattle.point_test.proofs.starts_in_time.Statement.{statement}
-use Rattle.point_test.proofs.starts_in_time.Tie as tie
+use Rattle.point_test.proofs.has_time.Statement.{statement}
+use Rattle.point_test.proofs.has_time.Tie as tie
 
 cost-requires : tie.Need-cost-requires
 cost-requires c κs = search needs
@@ -39,15 +39,15 @@ element-copy-out-rank c = search needs
 
 -- what the numbers of the equation are, and the last t
 base-is : (c : tie.After-rank) → let a = c .before .before .before .before .before .before .before .args in
-    c .before .before .before .before .before .less .result + a .blocked ≡ tasksBy (a .n) (now (a .y)) .c (a .i) - a .q + a .blocked
+    c .before .before .before .before .before .less .result + a .longest ≡ tasksBy (a .n) (now (a .y)) .c (a .i) - a .q + a .longest
 base-is c =
     let a = c .before .before .before .before .before .before .before .args in
-    ap (λ x. x + a .blocked) (c .before .before .before .before .before .less .ensures ∙ ap (λ x. x - a .q) (c .before .before .before .before .before .before .cost .ensures))
+    ap (λ x. x + a .longest) (c .before .before .before .before .before .less .ensures ∙ ap (λ x. x - a .q) (c .before .before .before .before .before .before .cost .ensures))
 
-base-some : (c : tie.After-rank) → 1 ≤ c .before .before .before .before .before .less .result + c .before .before .before .before .before .before .before .args .blocked
+base-some : (c : tie.After-rank) → 1 ≤ c .before .before .before .before .before .less .result + c .before .before .before .before .before .before .before .args .longest
 base-some c = rw (base-is c) (c .before .before .before .before .before .before .before .pre .2)
 
-base-few : (c : tie.After-rank) → c .before .before .before .before .before .less .result + c .before .before .before .before .before .before .before .args .blocked ≤ 2 * mostTicks
+base-few : (c : tie.After-rank) → c .before .before .before .before .before .less .result + c .before .before .before .before .before .before .before .args .longest ≤ 2 * mostTicks
 base-few c =
     let s = c .before .before .before .before .before .before .before in
     omega (arith, base-is c, s .pre .0 .costs (s .args .i) (s .pre .1) .1, s .pre .3)
@@ -60,11 +60,11 @@ latest-is c =
 
 -- so the answer is whether the solution lies at or before it
 decided : (c : tie.After-rank) → let a = c .before .before .before .before .before .before .before .args in let y = tasksBy (a .n) (now (a .y)) in let r = rankedBy (now (a .p)) in
-    startsInTime y r (a .i) (a .q) (a .blocked) ≡ within (solution y r (startBy (r .p (a .i)) (c .before .before .before .before .before .less .result + a .blocked)) 1) (c .before .less3 .result)
+    hasTime y r (a .i) (a .q) (a .longest) ≡ within (solution y r (startBy (r .p (a .i)) (c .before .before .before .before .before .less .result + a .longest)) 1) (c .before .less3 .result)
 decided c =
     let s = c .before .before .before .before .before .before .before in
     let a = s .args in
-    start-is (tasksBy (a .n) (now (a .y))) (rankedBy (now (a .p))) (a .i) (a .q) (a .blocked) _ (base-is c) (base-some c) _ (latest-is c)
+    start-is (tasksBy (a .n) (now (a .y))) (rankedBy (now (a .p))) (a .i) (a .q) (a .longest) _ (base-is c) (base-some c) _ (latest-is c)
     (omega (arith, latest-is c, s .pre .0 .deadlines (a .i) (s .pre .1) .1))
 
 add-t15 : tie.Need-add-t15
@@ -74,7 +74,7 @@ solve-requires : tie.Need-solve-requires
 solve-requires c κs =
     let s = c .before .before .before .before .before .before .before in
     let a = s .args in
-    (s .pre .0, start-rises (tasksBy (a .n) (now (a .y))) (rankedBy (now (a .p))) (a .i) (a .q) (a .blocked) _ (base-is c) (base-some c) (base-few c))
+    (s .pre .0, start-rises (tasksBy (a .n) (now (a .y))) (rankedBy (now (a .p))) (a .i) (a .q) (a .longest) _ (base-is c) (base-some c) (base-few c))
 
 enum-known-start : tie.Need-enum-known-start
 enum-known-start c = search needs
@@ -94,8 +94,8 @@ returns-2 c =
     let d = c .before .before .before in
     sym (decided d ∙ ap (λ x. within x (d .before .less3 .result)) (sym (c .before .before .solve .ensures) ∙ c .enum-told .given .1))
 
-pub starts-in-time-spec : {M : Type 1} → statement M
-starts-in-time-spec =
+pub has-time-spec : {M : Type 1} → statement M
+has-time-spec =
     tie.close
     (tie.spec
     cost-requires
