@@ -1,17 +1,17 @@
 -- What is worked out on a table's columns is what the paper says of its records.
 use Prim.Native.Nat.{ℕ, _<_}
-use mathlib.Core.Path.{_≡_, refl, ap, ap₂, sym, _∙_}
-use mathlib.Core.Bool.{Bool, true, false, _||_, cond}
+use mathlib.Core.Path.{_≡_, ap, ap₂, sym, _∙_}
+use mathlib.Core.Bool.{_||_, cond}
 use mathlib.Core.List.{List, [], _∷_}
 use lib.Dec.{ltb, eqb}
-use lib.ListN.{length, getD, replicate}
+use lib.ListN.{length, getD}
 use Rattle.paper.specs.Numbers.{mostTasks, mostTicks, rec, perTask, countsInRange, recordsInRange, assignmentHolds, assigned, Assignment}
 use Rattle.paper.specs.Regions.{wordsInRange, recordRegionsHold, allRegionsHold}
 use Rattle.paper.specs.Analysis.{tasksOf}
 use Rattle.paper.specs.Lengths.{slack, tolerance, lowestBelowZero}
 use Rattle.paper.specs.Points.{longestRegion, lastRegion, chunksOf, alpha, beforeLast, hasTime, pointsPass}
 use Rattle.paper.specs.Refusals.{firstOf, toleranceBelowZero}
-use Rattle.paper.specs.Answers.{fitFor, verdictFor, pointsFor, pointsAnswer}
+use Rattle.paper.specs.Answers.{verdictFor, pointsFor, pointsAnswer}
 use Rattle.paper.specs.declared.Table.{Table}
 use Rattle.paper.specs.declared.Refusal.{Refusal}
 use Rattle.paper.specs.declared.Outcome.{Outcome}
@@ -25,7 +25,7 @@ use Rattle.laws.proofs.Sums.{max-same, max-bound}
 use Rattle.laws.proofs.Lists.{per-task-at, per-task-same}
 use Rattle.columns.specs.Columns.{columnOf, columnsOf, tasksBy, rankedBy, Ranged}
 use Rattle.columns.specs.declared.Column.the-variants.{Priority}
-use Rattle.columns.proofs.Tables.{ranged, tasks-by, assigned-by}
+use Rattle.columns.proofs.Tables.{tasks-by, assigned-by}
 use Rattle.checks.proofs.Asks.{first-passed, first-refused}
 use Rattle.point_test.specs.Chunks.{Short, chunksBy}
 use Rattle.lengths.specs.Stages.{earlyAsks}
