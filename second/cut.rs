@@ -1,6 +1,6 @@
 //! Cabinets drawn for the test of fixed preemption points (document 02, item 2): regions of one word
 //! and of many, out of either list, and tables in which some task just passes, or is not shown by a
-//! tick. A cabinet that comes without that is one that can't be brought to it.
+//! tick. Some are left as they are drawn, and so is one that a few tries don't bring to a limit.
 
 use crate::checks::regions_wrong;
 use crate::draw::{assign, draw_jitters, ease_jitters, is_late};

@@ -2,8 +2,9 @@
 //! of source document 000, with the jitter of item 8). A task's last region can't be cut: what can
 //! still make the task late must happen before that region begins. Thresholds play no part.
 //!
-//! The test is sufficient only. A task that it passes meets its deadline; of any other it says
-//! nothing at all, and such a task may well be in time.
+//! The test is sufficient only. Where every task passes, all keep their deadlines: that is the
+//! theorem, which has no jitter. Of a task that doesn't pass nothing at all is said, and it may well
+//! be in time.
 
 use crate::analysis::{arrived, Tasks};
 use crate::checks::{self, Refusal};

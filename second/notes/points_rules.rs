@@ -345,11 +345,12 @@ fn what_rules_of_places_say() {
     assert_eq!(passing(&own, reaching), [true, true, true]);
 }
 
-/// The right rule is that of the margins, whatever is drawn.
+/// The right rule is that of the margins, and the answers are theirs, whatever is drawn.
 #[test]
 fn the_right_rule_is_the_margins() {
+    use crate::points;
     let random = &mut crate::random::Random::new(8);
-    let mut unshown = 0;
+    let (mut unshown, mut answered) = (0, 0);
     for _ in 0..300 {
         let n = random.from(1, 6);
         let mut cabinet = crate::draw::cabinet(random, n, true);
@@ -357,7 +358,15 @@ fn the_right_rule_is_the_margins() {
         let cut = Cut::of(&cabinet.table, &cabinet.own, &cabinet.catalogue).expect("regions");
         let passing: Vec<bool> = (0..cut.tasks.n).map(|i| cut.passes(i)).collect();
         assert_eq!(passing_by(&cut, &RIGHT), passing);
+        let (table, own, catalogue) = (&cabinet.table, &cabinet.own, &cabinet.catalogue);
+        if let Ok(verdicts) = points::fixed_points(table, own, catalogue) {
+            let passes = |verdict: &points::Verdict| *verdict == points::Verdict::Passes;
+            let said: Vec<bool> = verdicts.iter().map(passes).collect();
+            assert_eq!(said, passing);
+            answered += 1;
+        }
         unshown += u32::from(passing.contains(&false));
     }
     assert!(unshown > 20, "{unshown}");
+    assert!(answered > 100, "{answered}");
 }

@@ -1,6 +1,6 @@
 -- What ties fixed preemption points (document 02, item 2) to the floating regions that tolerances are for (source document 000, section VII): of a table that the test answers, alpha is 0 exactly for the lowest task, no difference that the test takes falls below zero, and a task whose tolerance is at least alpha passes.
 use Prim.Native.Nat.{ℕ, _+_, _-_, _≤_, _<_}
-use mathlib.Core.Path.{_≡_, refl, sym, ap, subst, _∙_}
+use mathlib.Core.Path.{_≡_, refl, sym, ap, _∙_}
 use mathlib.Core.Bool.{Bool, true, false, cond}
 use mathlib.Core.List.{List}
 use mathlib.Core.Logic.{_↔_, _⊎_, inl, inr, by-cases}
@@ -8,15 +8,15 @@ use native.Mathlib.Decide.{decLe}
 use native.Mathlib.Omega.{arith}
 use native.Mathlib.Nat.{le-trans}
 use borrow.Author.Tests.{lt-ltb, le-ltb, ltb-false}
-use lib.Dec.{T, leb, ltb, leb→le}
+use lib.Dec.{leb, ltb}
 use lib.IntN.{pos}
 use lib.ListN.{length, getD}
 use lib.Signed.{_≤ℤ_}
 use Rattle.paper.specs.Vocabulary.{every}
 use Rattle.paper.specs.Numbers.{rec, countsInRange, recordsInRange, assigned, unassigned, assignmentHolds, Assignment}
-use Rattle.paper.specs.Regions.{listOf, wordsInRange, recordRegionsHold, allRegionsHold}
+use Rattle.paper.specs.Regions.{listOf, allRegionsHold}
 use Rattle.paper.specs.Analysis.{Tasks, tasksOf, before, load}
-use Rattle.paper.specs.Lengths.{slack, tolerance, lowestBelowZero}
+use Rattle.paper.specs.Lengths.{tolerance, lowestBelowZero}
 use Rattle.paper.specs.Points.{Chunks, chunksOf, alpha, pointsPass}
 use Rattle.paper.specs.Refusals.{firstOf, fitAsks}
 use Rattle.paper.specs.Answers.{verdictFor, pointsAnswer}
@@ -24,13 +24,12 @@ use Rattle.paper.specs.declared.Table.{Table}
 use Rattle.paper.specs.declared.PointVerdict.{PointVerdict}
 use Rattle.paper.specs.declared.Shown.the-variants.{NotShown, Passes}
 use Rattle.paper.specs.declared.Outcome.the-variants.{Done}
-use Rattle.paper.proofs.Tests.{both, every-says}
 use Rattle.paper.proofs.Asks.{met, clear}
-use Rattle.paper.proofs.Lengths.{Tolerable, lowest-zero, tolerance-reached}
-use Rattle.paper.proofs.Points.{Held, regions-say, Point, passes-means}
+use Rattle.paper.proofs.Lengths.{Tolerable, lowest-zero}
+use Rattle.paper.proofs.Points.{Held, all-regions-say, Point, passes-means}
 use Rattle.laws.proofs.Sums.{sum-part, max-part, max-bound}
 use Rattle.laws.proofs.Lists.{per-task-at}
-use Rattle.laws.proofs.Signed.{pos-sub}
+use Rattle.laws.proofs.Tolerated.{tolerated-at}
 use Rattle.laws.proofs.Arrivals.{before-le, load-le}
 
 -- task i may be tested: its last region is a part of its cost, and its tolerance isn't below zero
@@ -39,18 +38,9 @@ pub record Divided (y : Tasks) (a : Assignment) (g : Chunks) (i : ℕ) : Type 0 
   pub tolerable : Tolerable y a i
 
 module _ (y : Tasks) (a : Assignment) (g : Chunks) (i : ℕ) (w : Divided y a g i) where
-  -- b is tolerated: some t up to D(i) − J(i) leaves room for the cost, all that is above, and b
-  tolerated-at : (b : ℕ) → pos b ≤ℤ tolerance y a i
-      → (t : ℕ) × (t + y .j i ≤ y .d i) × (b + (y .c i + load y (λ j. ltb (a .p j) (a .p i)) (before y t)) ≤ t)
-  unfolding slack
-  tolerated-at b h =
-      let r = tolerance-reached y a i (w .tolerable .instant) in
-      let m : ℕ = y .c i + load y (λ j. ltb (a .p j) (a .p i)) (before y (r .0)) in
-      (r .0, r .1 .high, leb→le (b + m) (r .0) (subst T (pos-sub b (r .0) m) ((rw (r .2) at h) .le)))
-
   -- no difference in the test falls below zero
   pub exact : (g .last i ≤ y .c i) × (y .j i + g .last i ≤ y .d i)
-  exact = let r = tolerated-at 0 (w .tolerable .least) in (w .last, omega (arith, w .last, r .1, r .2))
+  exact = let r = tolerated-at y a i (w .tolerable .instant) 0 (w .tolerable .least) in (w .last, omega (arith, w .last, r .1 .high, r .2))
 
   -- A task whose tolerance is at least alpha passes: what lets it end in time lets its last region start in time.
   pub tolerated-passes : pos (alpha y a g i) ≤ℤ tolerance y a i → pointsPass y a g i ≡ true
@@ -59,11 +49,11 @@ module _ (y : Tasks) (a : Assignment) (g : Chunks) (i : ℕ) (w : Divided y a g 
     where
       early : 1 ≤ alpha y a g i → (t : ℕ) × Point y a i (g .last i) (alpha y a g i) t
       early some =
-          let r = tolerated-at (alpha y a g i) h in
+          let r = tolerated-at y a i (w .tolerable .instant) (alpha y a g i) h in
           let u = r .0 - g .last i in
           let rises = load-le y (λ j. ltb (a .p j) (a .p i)) (before y u) (before y (r .0)) (λ j _. before-le y j u (r .0) (omega arith)) in (
             u,
-            record { low = omega (arith, w .last, r .2); high = omega (arith, r .1); fits = omega (arith, w .last, r .2, rises) },
+            record { low = omega (arith, w .last, r .2); high = omega (arith, r .1 .high); fits = omega (arith, w .last, r .2, rises) },
           )
 
 -- The same of a table that the test answers.
@@ -83,7 +73,6 @@ module _ (t : Table) (own catalogue : List ℕ) (e : firstOf (fitAsks t own cata
     tolerable : (k : ℕ) → k < t .n → Tolerable y a k
 
   answered : Answered
-  unfolding allRegionsHold
   answered =
       let c = met (countsInRange (t .n) (length own)) _ _ e in
       let r = met (recordsInRange (t .records) (t .n)) _ _ (c .1) in
@@ -93,7 +82,7 @@ module _ (t : Table) (own catalogue : List ℕ) (e : firstOf (fitAsks t own cata
       let d = met (every (t .n) (λ k. leb (rec (t .records) k .deadline) (rec (t .records) k .period))) _ _ (u .1) in
       let z = clear (ltb 0 (lowestBelowZero y a)) _ _ (d .1) in
       record {
-        held = λ k l. regions-say _ _ _ _ (every-says (t .n) (λ k. recordRegionsHold own catalogue (rec (t .records) k)) (both (wordsInRange own 0 (length own)) _ (h .0) .1) k l);
+        held = all-regions-say (t .records) (t .n) own catalogue (h .0);
         tolerable = lowest-zero y a .0 (omega (arith, ltb-false 0 (lowestBelowZero y a) (z .0)));
       }
 

@@ -1,5 +1,6 @@
 // How many jobs a table has, and the first of them of which something doesn't hold: it is late, has a region above its length,
-// is not shown by the test of fixed preemption points, has a jitter, or finds the catalogue ending before its regions. specs/Firsts.antt says which job that is.
+// is not shown by the test of fixed preemption points, has a jitter, or finds the catalogue ending before its regions.
+// specs/Firsts.antt says which job that is.
 ghost use Prim.Native.Nat.{_+_, _<_, _≤_, min};
 ghost use mathlib.Core.Path.{_≡_};
 ghost use mathlib.Core.Bool.{not};

@@ -1,4 +1,4 @@
--- Fixed preemption points (document 02, item 2): what the last region is, when alpha is 0, and what it is to pass. Records are counted from 0 here: i is record i + 1.
+-- Fixed preemption points (document 02, item 2): what the last region is, and what it is to pass. Records are counted from 0 here: i is record i + 1.
 use Prim.Native.Nat.{ℕ, _+_, _-_, _*_, _≤_, _<_}
 use mathlib.Core.Path.{_≡_, refl, ap, _∙_}
 use mathlib.Core.Bool.{Bool, true, false, _&&_, _||_, or-true, cond}
@@ -11,10 +11,11 @@ use lib.ListN.{length, getD, take, drop, length-take, length-drop}
 use lib.Seq.{drop-cons, getD-take, getD-drop}
 use Rattle.paper.specs.Vocabulary.{sumTo, ceilDiv}
 use Rattle.paper.specs.Numbers.{mostTicks, rec, ticksInRange, countsInRange, Assignment}
-use Rattle.paper.specs.Regions.{listOf, wordsInRange, wordsSum, regionsHold, recordRegionsHold}
+use Rattle.paper.specs.Regions.{listOf, wordsInRange, wordsSum, regionsHold, recordRegionsHold, allRegionsHold}
 use Rattle.paper.specs.Analysis.{Tasks, before, load}
 use Rattle.paper.specs.Points.{lastRegion, Chunks, alpha, beforeLast, hasTime, pointsPass}
 use Rattle.paper.specs.Answers.{regionsOutcome, regionsWords, lastWords}
+use Rattle.paper.specs.declared.Record.{Record}
 use Rattle.paper.specs.declared.Table.{Table}
 use Rattle.paper.specs.declared.Outcome.the-variants.{Done}
 use Rattle.paper.proofs.Tests.{both, within, every-says, some-says, some-there}
@@ -44,6 +45,12 @@ regions-say list first count c e =
       words = λ i l. within 1 mostTicks _ (every-says count (λ i. ticksInRange (getD list (first + i) 0)) (w .0) i l);
       cost = eqb-true _ _ (w .1);
     }
+
+pub all-regions-say : (rs : List Record) (n : ℕ) (own catalogue : List ℕ) → allRegionsHold rs n own catalogue ≡ true → (k : ℕ) → k < n
+    → let r = rec rs k in Held (listOf (r .source) own catalogue) (r .first) (r .count) (r .cost)
+unfolding allRegionsHold
+all-regions-say rs n own catalogue e k l =
+    regions-say _ _ _ _ (every-says n (λ k. recordRegionsHold own catalogue (rec rs k)) (both (wordsInRange own 0 (length own)) _ e .1) k l)
 
 -- The last region is the last word of the task's regions, and it is what the test takes for q.
 module _ (t : Table) (own catalogue : List ℕ) (number : ℕ) (e : regionsOutcome t own catalogue number ≡ Done) where

@@ -313,6 +313,9 @@ figures =
     (lastOf (points 5 0 0) (pointWords 5) [] 2 gives words (7 ∷ [])) ∷
     -- ours, a tick more, and B isn't shown: all before its last region is done by 14, from where that would end past the deadline
     (pointsOf (points 6 0 0) (pointWords 6) [] 2 gives says false) ∷
+    -- ours, alpha is of all lower tasks: with C's region 8 that of A is 8, more than 7; with jitter of A 1 t goes up to 6, and alpha is 7, of B
+    (pointsOf (points 8 0 0) (pointWords 8) [] 1 gives says false) ∷
+    (pointsOf (points 5 1 0) (pointWords 5) [] 1 gives says false) ∷
     -- ours, jitter of A 2: it comes again at 8. For B 2 + 3 + 3 = 8 passes, and with 4 nothing does
     (pointsOf (points 3 2 0) (pointWords 3) [] 2 gives says true) ∷
     (pointsOf (points 4 2 0) (pointWords 4) [] 2 gives says false) ∷

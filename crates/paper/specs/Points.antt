@@ -28,7 +28,7 @@ abbrev pub chunksOf : List Record → List ℕ → List ℕ → Chunks
 chunksOf rs own catalogue =
     record { longest = λ k. longestRegion own catalogue (rec rs k); last = λ k. lastRegion own catalogue (rec rs k) }
 
--- alpha(i) is the longest region of any lower task, or 0 where there is none. It stays whole: B − 1 of item 5 is for blocking in L and S
+-- alpha(i) is the longest region of any lower task, or 0 where there is none. It stays whole (item 5), since a last region may not start at a tick on which a higher task arrives
 unfoldable pub alpha : Tasks → Assignment → Chunks → ℕ → ℕ
 alpha y a g i = maxTo (y .n) (λ k. cond (ltb (a .p i) (a .p k)) (g .longest k) 0)
 

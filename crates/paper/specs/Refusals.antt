@@ -1,4 +1,4 @@
--- Document 01, "Numbers a turned-away call returns", with what document 02 adds to it, 18 (item 1), 19 and more of 9 and 16 (item 8), 2 and 6 of both editions (item 9); two calls of item 2 ask what others ask: for each call the numbers it asks, in the order asked.
+-- Document 01, "Numbers a turned-away call returns", with what document 02 adds to it, 18 (item 1), 19 and more of 9 and 16 (item 8), 2 and 6 of both editions (item 9): for each call the numbers it asks, in the order asked. The two calls of item 2 ask what others ask.
 use Prim.Native.Nat.{ℕ, _+_, _-_}
 use mathlib.Core.Bool.{Bool, not, _&&_, _||_, cond}
 use mathlib.Core.List.{List, [], _∷_, _++_}

@@ -67,8 +67,8 @@ pub enum Refusal {
     Unassigned,
     DeadlineAbovePeriod,
     // Holds the number of the lowest record that is turned away: by the call of tolerances one whose jitter leaves no t to take a
-    // tolerance over; by lengths, the region check and the test of
-    // fixed preemption points that, or one whose tolerance is below zero.
+    // tolerance over; by lengths, the region check and the test of fixed preemption points that, or one whose tolerance is below
+    // zero.
     ToleranceBelowZero(usize),
     BadRow,
     BlankPlate,

@@ -1,22 +1,22 @@
 -- A task falls under 16 exactly where it would not end in time with nothing below it: where no t will do with q and alpha both 0.
 use Prim.Native.Nat.{ℕ, _+_, _-_, _≤_}
 use mathlib.Core.Path.{_≡_, refl, sym, subst}
-use mathlib.Core.Bool.{Bool, true, false, not, _||_}
+use mathlib.Core.Bool.{Bool, true, false, not}
 use native.Mathlib.Omega.{arith}
 use borrow.Author.Tests.{leb-true, le-leb, lt-leb}
-use lib.Dec.{T, leb, ltb, leb→le, le→leb}
-use lib.IntN.{pos}
-use lib.Signed.{ltZ, _≤ℤ_}
+use lib.Dec.{T, leb, ltb, le→leb}
+use lib.Signed.{_≤ℤ_}
 use Rattle.paper.specs.Vocabulary.{lowest}
 use Rattle.paper.specs.Numbers.{Assignment}
 use Rattle.paper.specs.Analysis.{Tasks, before, load}
-use Rattle.paper.specs.Lengths.{slack, tolerance, noInstant, lowestBelowZero}
+use Rattle.paper.specs.Lengths.{slack, noInstant, lowestBelowZero}
 use Rattle.paper.specs.Points.{beforeLast, hasTime}
 use Rattle.paper.proofs.Tests.{never, some-says, some-there}
-use Rattle.paper.proofs.Signed.{≤ℤ-trans, ltZ-fails, ltZ-denies}
-use Rattle.paper.proofs.Lengths.{Tolerable, tolerance-bounds, tolerance-reached}
+use Rattle.paper.proofs.Signed.{≤ℤ-trans}
+use Rattle.paper.proofs.Lengths.{Tolerable, falls, falls-not, tolerance-bounds}
 use Rattle.laws.proofs.Every.{lowest-same}
 use Rattle.laws.proofs.Signed.{pos-sub}
+use Rattle.laws.proofs.Tolerated.{tolerated-at}
 
 module _ (y : Tasks) (a : Assignment) where
   module _ (i : ℕ) where
@@ -32,13 +32,11 @@ module _ (y : Tasks) (a : Assignment) where
     test t = leb (beforeLast y a i 0 t + 0) t
 
     starts : Tolerable y a i → hasTime y a i 0 0 ≡ true
-    unfolding hasTime slack
+    unfolding hasTime
     starts w =
-        let r = tolerance-reached y a i (w .instant) in
+        let r = tolerated-at y a i (w .instant) 0 (w .least) in
         let t = r .0 in
-        let left = rw (r .2) at (w .least) in
-        let done : 0 + taken t ≤ t = leb→le (0 + taken t) t (subst T (pos-sub 0 t (taken t)) (left .le)) in
-        some-there (y .d i - y .j i - 0) test t (r .1 .low) (omega (arith, r .1 .high)) (le-leb (beforeLast y a i 0 t + 0) t (omega (arith, taken-is t, done)))
+        some-there (y .d i - y .j i - 0) test t (r .1 .low) (omega (arith, r .1 .high)) (le-leb (beforeLast y a i 0 t + 0) t (omega (arith, taken-is t, r .2)))
 
     tolerable : hasTime y a i 0 0 ≡ true → Tolerable y a i
     unfolding hasTime slack noInstant
@@ -55,17 +53,16 @@ module _ (y : Tasks) (a : Assignment) where
               (tolerance-bounds y a i t (record { low = r .1; high = early }));
         }
 
-    falls-is : not (hasTime y a i 0 0) ≡ (noInstant y i || ltZ (tolerance y a i) (pos 0))
+    falls-is : not (hasTime y a i 0 0) ≡ falls y a i
     falls-is = go (hasTime y a i 0 0) refl
       where
-        late : hasTime y a i 0 0 ≡ false → (b c : Bool) → noInstant y i ≡ b → ltZ (tolerance y a i) (pos 0) ≡ c → true ≡ (b || c)
-        late e true c n l = refl
-        late e false true n l = refl
-        late e false false n l = absurd (never _ (starts (record { instant = n; least = ltZ-denies l })) e)
+        late : hasTime y a i 0 0 ≡ false → (b : Bool) → falls y a i ≡ b → true ≡ b
+        late e true f = refl
+        late e false f = absurd (never _ (starts (falls-not y a i .0 f)) e)
 
-        go : (b : Bool) → hasTime y a i 0 0 ≡ b → not b ≡ (noInstant y i || ltZ (tolerance y a i) (pos 0))
-        go true e = let w = tolerable e in rw (w .instant, ltZ-fails (w .least))
-        go false e = late e (noInstant y i) (ltZ (tolerance y a i) (pos 0)) refl refl
+        go : (b : Bool) → hasTime y a i 0 0 ≡ b → not b ≡ falls y a i
+        go true e = sym (falls-not y a i .1 (tolerable e))
+        go false e = late e (falls y a i) refl
 
   pub lowest-is : lowest (y .n) (λ k. not (hasTime y a k 0 0)) ≡ lowestBelowZero y a
   unfolding lowestBelowZero

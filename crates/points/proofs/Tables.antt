@@ -6,7 +6,7 @@ use mathlib.Core.List.{List, [], _∷_}
 use lib.Dec.{ltb, eqb}
 use lib.ListN.{length, getD}
 use Rattle.paper.specs.Numbers.{mostTasks, mostTicks, rec, perTask, countsInRange, recordsInRange, assignmentHolds, assigned, Assignment}
-use Rattle.paper.specs.Regions.{wordsInRange, recordRegionsHold, allRegionsHold}
+use Rattle.paper.specs.Regions.{allRegionsHold}
 use Rattle.paper.specs.Analysis.{tasksOf}
 use Rattle.paper.specs.Lengths.{slack, tolerance, lowestBelowZero}
 use Rattle.paper.specs.Points.{longestRegion, lastRegion, chunksOf, alpha, beforeLast, hasTime, pointsPass}
@@ -18,9 +18,8 @@ use Rattle.paper.specs.declared.Outcome.{Outcome}
 use Rattle.paper.specs.declared.Outcome.the-variants.{Done, Refused}
 use Rattle.paper.specs.declared.PointVerdict.{PointVerdict}
 use Rattle.paper.specs.declared.PointsAnswer.{PointsAnswer}
-use Rattle.paper.proofs.Tests.{both, every-says}
 use Rattle.paper.proofs.Asks.{met}
-use Rattle.paper.proofs.Points.{regions-say}
+use Rattle.paper.proofs.Points.{all-regions-say}
 use Rattle.laws.proofs.Sums.{max-same, max-bound}
 use Rattle.laws.proofs.Lists.{per-task-at, per-task-same}
 use Rattle.columns.specs.Columns.{columnOf, columnsOf, tasksBy, rankedBy, Ranged}
@@ -81,15 +80,10 @@ module _ (t : Table) (own catalogue : List ℕ) where
 
     -- the analysis may run on its table
     pub in-range : Ranged (tasksOf (t .records) (t .n)) × Brief t own catalogue
-    unfolding allRegionsHold
     in-range =
         let c = met (countsInRange (t .n) (length own)) _ _ e in
         let r = met (recordsInRange (t .records) (t .n)) _ _ (c .1) in
         let a = met (assignmentHolds (t .records) (t .n)) _ _ (r .1) in
         let h = met (allRegionsHold (t .records) (t .n) own catalogue) _ _ (a .1) in
-        let w = both (wordsInRange own 0 (length own)) _ (h .0) in (
-          early-done t own catalogue e,
-          λ k l.
-              let held = regions-say _ _ _ _ (every-says (t .n) (λ k. recordRegionsHold own catalogue (rec (t .records) k)) (w .1) k l) in
-              max-bound (rec (t .records) k .count) mostTicks _ (λ i m. held .words i m .1),
-        )
+        let held = all-regions-say (t .records) (t .n) own catalogue (h .0) in
+        (early-done t own catalogue e, λ k l. max-bound (rec (t .records) k .count) mostTicks _ (λ i m. held k l .words i m .1))

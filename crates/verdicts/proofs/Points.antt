@@ -38,7 +38,7 @@ module _ (t : Table) (own catalogue : List ℕ) where
   abbrev passes : ℕ → Bool
   passes = pointsPass (tasksOf (t .records) (t .n)) (assigned (t .records)) (chunksOf (t .records) own catalogue)
 
-  -- a cell says "passes" where the job passes
+  -- what is said of a job in the answer is whether it passes
   cell-passes : firstOf (fitAsks t own catalogue) ≡ Done → (k : ℕ) → k < t .n → passesAt (factsOf t own catalogue) k ≡ passes k
   cell-passes e k l =
       rw e (ap (λ (v : PointVerdict). isShown (v .verdict)) (per-task-at (t .n) (λ j. verdictFor (passes j)) (verdictFor false) (verdictFor false) k l) ∙ shown-is (passes k))

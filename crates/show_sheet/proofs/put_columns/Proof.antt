@@ -1,4 +1,4 @@
--- `show_sheet::put_columns` stays inside the buffer, whose length no turn changes. There are eleven columns.
+-- `show_sheet::put_columns` stays inside the buffer, whose length no turn changes. There are twelve columns.
 use Prim.Native.Nat.{_≤_, _-_}
 use mathlib.Core.Path.{_≡_}
 use borrow.Author.Needs.{needs}
