@@ -8,6 +8,8 @@ mod analysis;
 mod bits;
 #[path = "../second/checks.rs"]
 mod checks;
+#[path = "../second/cut.rs"]
+mod cut;
 #[path = "../second/draw.rs"]
 mod draw;
 #[path = "../second/file.rs"]
@@ -20,7 +22,11 @@ mod later;
 mod lengths;
 #[path = "../second/listing.rs"]
 mod listing;
+#[path = "../second/margins.rs"]
+mod margins;
 mod measure;
+#[path = "../second/points.rs"]
+mod points;
 #[path = "../second/random.rs"]
 mod random;
 #[path = "../second/seal.rs"]
@@ -59,6 +65,12 @@ mod core {
         ) -> u64;
         pub fn bench_times(table: *const u8, table_len: usize) -> u64;
         pub fn bench_tolerances(table: *const u8, table_len: usize) -> i64;
+        pub fn bench_points(
+            table: *const u8,
+            table_len: usize,
+            own: *const u32,
+            own_len: usize,
+        ) -> u64;
         pub fn bench_passes(
             n: usize,
             y: &[u64; TASK_COLUMNS * MOST_TASKS],
@@ -106,6 +118,8 @@ fn main() {
     analysis_of(8, 10);
     analysis_of(MOST_TASKS, 0);
     tolerance_of_a_long_deadline();
+    points_of_a_long_deadline(2_000);
+    points_of_a_long_deadline(1_000_000);
 }
 
 /// Own regions of each of the fifteen tasks.
@@ -263,6 +277,48 @@ fn tolerance_of_a_long_deadline() {
     assert_eq!(core.1, second.1);
     say(
         "tolerances, deadline 1,000,000 below seven tasks",
+        core,
+        second,
+    );
+}
+
+/// Eight tasks, each of one region; the last but one has this deadline. The core climbs, whatever the deadline is; the second
+/// program tries one t after the other until one will do.
+fn points_of_a_long_deadline(deadline: u32) {
+    let mut table = Table {
+        n: 8,
+        ..Table::default()
+    };
+    for (k, record) in table.records[..8].iter_mut().enumerate() {
+        let period = if k == 6 {
+            deadline
+        } else {
+            900 + 37 * k as u32
+        };
+        *record = Record {
+            cost: if k == 6 { 200 } else { 90 },
+            period: if k == 7 { 1_000_000 } else { period },
+            deadline: if k == 7 { 1_000_000 } else { period },
+            priority: k as u32 + 1,
+            threshold: 1,
+            first: k as u32,
+            count: 1,
+            ..Record::default()
+        };
+    }
+    let own: Vec<u32> = table.records[..8].iter().map(|r| r.cost).collect();
+    let bytes = table_bytes(&table);
+    let core = measure(50, || unsafe {
+        core::bench_points(bytes.as_ptr(), bytes.len(), own.as_ptr(), own.len())
+    });
+    let second = measure(50, || {
+        let verdicts = points::fixed_points(black_box(&table), &own, &[]).expect("answered");
+        let passing = |verdict: &&points::Verdict| **verdict == points::Verdict::Passes;
+        verdicts.iter().filter(passing).count() as u64
+    });
+    assert_eq!(core.1, second.1);
+    say(
+        &format!("fixed points of eight tasks, one of deadline {deadline}"),
         core,
         second,
     );

@@ -16,10 +16,12 @@ size bench_times(const byte *table, size table_len);
 long bench_tolerances(const byte *table, size table_len);
 size bench_lengths(const byte *table, size table_len);
 size bench_fit(const byte *table, size table_len, const word *own, size own_len);
+size bench_points(const byte *table, size table_len, const word *own, size own_len);
 size bench_first(const byte *table, size table_len, byte *out, size out_len);
 size bench_next(const byte *table, size table_len, const byte *given, size given_len, byte *out, size out_len);
 size bench_record(const byte *file, size file_len, word cabinet, unsigned short line, size record);
 size bench_regions(const byte *table, size table_len, const word *own, size own_len, size record);
+size bench_last(const byte *table, size table_len, const word *own, size own_len, size record);
 size bench_name(word name, const byte *list, size list_len);
 
 /* The plate of bench_write. */
@@ -61,10 +63,12 @@ static void times(void) { answer = bench_times(table, TABLE); }
 static void tolerances(void) { answer = bench_tolerances(table, TABLE); }
 static void lengths(void) { answer = bench_lengths(table, TABLE); }
 static void fit(void) { answer = bench_fit(table, TABLE, own, WORDS); }
+static void points(void) { answer = bench_points(table, TABLE, own, WORDS); }
 static void first(void) { answer = bench_first(table, TABLE, row, 2 * TASKS); }
 static void next_row(void) { answer = bench_next(table, TABLE, row, 2 * TASKS, next, 2 * TASKS); }
 static void record(void) { answer = bench_record(file, file_len, CABINET, LINE, TASKS); }
 static void regions(void) { answer = bench_regions(table, TABLE, own, WORDS, TASKS); }
+static void last(void) { answer = bench_last(table, TABLE, own, WORDS, TASKS); }
 static void name(void) { answer = bench_name(63, names, sizeof names); }
 
 /* Runs the work on the painted stack and says how many bytes of it are no longer as they were painted. It is run once before:
@@ -101,6 +105,8 @@ int main(void) {
     want(answer == 0);
     printf("| `region_check` | %lu |\n", used(fit));
     want(answer == 0);
+    printf("| `point_check` | %lu |\n", used(points));
+    want(answer == TASKS);
     printf("| `first_row` | %lu |\n", used(first));
     want(answer == 0);
     printf("| `next_row` | %lu |\n", used(next_row));
@@ -109,6 +115,8 @@ int main(void) {
     want(answer == 12);
     printf("| `regions` | %lu |\n", used(regions));
     want(answer == REGIONS);
+    printf("| `last_region` | %lu |\n", used(last));
+    want(answer == 1);
     printf("| `name` | %lu |\n", used(name));
     want(answer == 16);
     return 0;

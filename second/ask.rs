@@ -7,8 +7,9 @@
 use crate::analysis::Response;
 use crate::checks::Refusal;
 use crate::file::Edition;
+use crate::points::Verdict;
 use crate::table::*;
-use crate::{analysis, file, lengths, listing, parts};
+use crate::{analysis, file, lengths, listing, parts, points};
 use std::fmt::{Display, Write as _};
 use std::io::{self, BufRead, BufReader, Read, Write};
 
@@ -69,6 +70,8 @@ fn answer(kind: u8, body: Body) -> Option<String> {
         9 => record(body),
         10 => regions(body),
         11 => name(body),
+        12 => last_region(body),
+        13 => fixed_points(body),
         14 => write_edition(body),
         _ => None,
     }
@@ -256,6 +259,26 @@ fn name(mut body: Body) -> Option<String> {
     Some(line(answer))
 }
 
+fn last_region(mut body: Body) -> Option<String> {
+    let number = body.two()?;
+    let table = body.table()?;
+    let own = body.words()?;
+    let catalogue = body.words()?;
+    body.end()?;
+    let part = parts::last_region(&table, &own, &catalogue, number);
+    let answer = part.map(|word| format!("last{}", spaced(word)));
+    Some(line(answer))
+}
+
+fn fixed_points(mut body: Body) -> Option<String> {
+    let table = body.table()?;
+    let own = body.words()?;
+    let catalogue = body.words()?;
+    body.end()?;
+    let answer = points::fixed_points(&table, &own, &catalogue).map(|all| points_text(&all));
+    Some(line(answer))
+}
+
 fn lent_bytes(room: u16) -> Vec<u8> {
     vec![FILL; room as usize]
 }
@@ -305,6 +328,18 @@ fn times_text(responses: &[Option<Response>]) -> String {
 
 fn fits_text(fits: bool) -> String {
     String::from(if fits { "fits" } else { "unfit" })
+}
+
+/// The test is sufficient only, so its second word isn't "fails".
+fn points_text(verdicts: &[Verdict]) -> String {
+    let mut text = String::from("points");
+    for verdict in verdicts {
+        text += match verdict {
+            Verdict::Passes => " passes",
+            Verdict::Unshown => " unshown",
+        };
+    }
+    text
 }
 
 fn row_text(found: bool) -> String {

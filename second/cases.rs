@@ -3,12 +3,14 @@
 //! inputs that stand in a file each. Nothing here is random.
 
 mod editions;
+mod points;
 
 use crate::file::{self, Edition};
 use crate::generate::*;
 use crate::spoil::*;
 use crate::table::*;
 use editions::{editions, list_inputs_of_edition_2, show_inputs_of_edition_2};
+use points::{points, show_inputs_of_points};
 use std::fmt::Write as _;
 use std::io;
 
@@ -20,9 +22,9 @@ struct Case {
 }
 
 /// The calls by kind, with the numbers that each of them asks, in the order in which it asks them
-/// (document 01, "Numbers a turned-away call returns", and document 02, items 1, 8 and 9). Kind 2
+/// (document 01, "Numbers a turned-away call returns", and document 02, items 1, 2, 8 and 9). Kind 2
 /// writes edition 1, so it isn't asked 2.
-pub const CALLS: [(u8, &str, &[u8]); 12] = [
+pub const CALLS: [(u8, &str, &[u8]); 14] = [
     (1, "read", &[1, 2, 18, 3, 4, 5, 6, 7, 8, 9, 10, 11, 12]),
     (2, "write", &[5, 18, 9, 10, 11, 19, 12]),
     (3, "response times", &[5, 9, 10, 14]),
@@ -34,6 +36,8 @@ pub const CALLS: [(u8, &str, &[u8]); 12] = [
     (9, "record", &[1, 2, 18, 3, 4, 5, 6, 7, 8, 9, 10, 11, 13]),
     (10, "regions", &[5, 13, 11]),
     (11, "name", &[9, 13]),
+    (12, "last region", &[5, 13, 11]),
+    (13, "fixed preemption points", &[5, 9, 10, 11, 14, 15, 16]),
     (14, "write an edition", &[2, 5, 18, 9, 10, 11, 19, 12]),
 ];
 
@@ -117,6 +121,7 @@ fn all() -> Vec<Case> {
     regions(&mut stream);
     names(&mut stream);
     editions(&mut stream);
+    points(&mut stream);
     stream.cases
 }
 
@@ -1889,11 +1894,14 @@ pub fn refusals() -> String {
          writing's 2. They stand here \
          in the order in which a call asks them, so that the first that applies is the one it gives: mostly the \
          lowest, but 18 is asked straight after 2 in reading and straight after 5 in writing, 19 between 11 and \
-         12 in writing, and 13 before 11 for a record's regions.\n\n\
+         12 in writing, and 13 before 11 for a record's regions and for the last of them.\n\n\
          2 is an edition that is neither 1 nor 2: the one that stands in a file's head, or the one that the writer \
          is told, which is asked first of all. `write` is told none and writes edition 1, so it can't give 2. 19, a \
          jitter that isn't 0, is asked of edition 1 alone: edition 2 has a place for it. 6 and 8 read the edition, \
          as length and spare bits are its own; 1 doesn't, and is a file under 22 bytes in both.\n\n\
+         `last region` and `fixed preemption points` are the calls of document 02, item 2. They ask what `regions` \
+         and `region check` ask, in the same order. `unshown` is no refusal, and doesn't say that the task is late: \
+         the test is sufficient only, and doesn't show of this task that it passes.\n\n\
          ## By call and number\n\n\
          | call | number | lines |\n|---|---|---|\n",
     );
@@ -1970,6 +1978,10 @@ fn ask_streams() -> Vec<(String, Vec<u8>)> {
     let no_kind = format!("kind {NO_KIND}");
     let (table, own) = two_jobs();
     let written = write_body(PLATE, 48, &table, &own, &[]);
+    let mut checked = table_body(&table);
+    put_words(&mut checked, &own);
+    put_words(&mut checked, &[]);
+    let numbered = [&[0, 1], &checked[..]].concat();
     let mut list = vec![
         ("empty".to_string(), vec![]),
         ("one".to_string(), good.clone()),
@@ -1992,6 +2004,9 @@ fn ask_streams() -> Vec<(String, Vec<u8>)> {
             "edition before kind 2",
             request(2, &[&[1], &written[..]].concat()),
         ),
+        ("record number missing", request(12, &checked)),
+        ("record number alone", request(12, &[0, 1])),
+        ("record number before kind 13", request(13, &numbered)),
     ] {
         list.push((name.to_string(), [&good[..], &tail].concat()));
     }
@@ -2134,6 +2149,7 @@ fn show_inputs() -> Vec<(String, Vec<u8>)> {
         }
     }
     list.extend(show_inputs_of_edition_2());
+    list.extend(show_inputs_of_points());
     list
 }
 

@@ -2,7 +2,8 @@
 //! document 02, item 1, and 19 of its item 8. A call asks its own numbers one by one, and the first
 //! that applies wins; a condition may therefore rely on those that its call asks before it. They are
 //! asked from the lowest up, but for three: 18 comes straight after 2 in reading and straight after
-//! 5 in writing, 19 comes between 11 and 12, and a record's regions are asked 13 before 11.
+//! 5 in writing, 19 comes between 11 and 12, and a record's regions, like the last of them, are asked
+//! 13 before 11.
 
 use crate::table::*;
 use std::fmt;

@@ -9,6 +9,7 @@ use crate::random::Random;
 use crate::table::*;
 
 /// A cabinet as the writer would take it, but for what a later step makes wrong.
+#[derive(Clone)]
 pub struct Cabinet {
     pub plate: Plate,
     /// The edition of its file; the first, unless one is given.
@@ -65,7 +66,7 @@ pub fn cabinet(random: &mut Random, n: u32, lent: bool) -> Cabinet {
 /// Own words behind those that records name, up to as many as a file holds.
 fn unnamed_words(random: &mut Random, own: &mut Vec<u32>) {
     let most = MOST_REGION_WORDS;
-    let m = random.one_of(&[most - 1, most - 1, most, most, most]);
+    let m = random.one_of(&[most - 1, most - 1, most]);
     let word = random.one_of(&[1, MOST_TICKS]);
     if own.len() < m {
         own.resize(m, word);
@@ -204,7 +205,7 @@ pub fn full_above_a_tick_or_two(random: &mut Random, table: &mut Table) {
 }
 
 /// The record of lowest priority.
-fn lowest(table: &Table) -> usize {
+pub fn lowest(table: &Table) -> usize {
     let places = 0..table.n as usize;
     let lowest = places.max_by_key(|k| table.records[*k].priority);
     lowest.unwrap_or(0)
@@ -275,7 +276,7 @@ pub fn late_above_the_horizon(random: &mut Random, table: &mut Table) {
 }
 
 /// The cost of one of n tasks that together load the processor by so much of a hundred.
-fn share(period: u32, load: u32, n: u32) -> u32 {
+pub fn share(period: u32, load: u32, n: u32) -> u32 {
     (period as u64 * load as u64 / 100 / n as u64).max(1) as u32
 }
 
@@ -340,7 +341,7 @@ pub fn threshold_of(random: &mut Random, priority: u32) -> u32 {
 
 /// Gives the priorities again, the earliest deadline the highest. Each threshold goes with its
 /// priority, so the assignment stays well formed.
-fn order_by_deadline(table: &mut Table) {
+pub fn order_by_deadline(table: &mut Table) {
     let n = table.n as usize;
     let mut places: Vec<(u32, u32)> = Vec::new();
     for record in table.tasks() {
@@ -358,7 +359,13 @@ fn order_by_deadline(table: &mut Table) {
 
 /// Makes half of the files edition 2, and gives half of those a jitter.
 pub fn give_edition(random: &mut Random, cabinet: &mut Cabinet) {
-    cabinet.edition = random.one_of(&Edition::BOTH);
+    let edition = random.one_of(&Edition::BOTH);
+    give_this_edition(random, cabinet, edition);
+}
+
+/// Makes the file one of this edition, and gives half of those of edition 2 a jitter.
+pub fn give_this_edition(random: &mut Random, cabinet: &mut Cabinet, edition: Edition) {
+    cabinet.edition = edition;
     if cabinet.edition == Edition::Two {
         give_jitters(random, &mut cabinet.table);
         if is_late(&cabinet.table) && random.once_in(3) {
@@ -526,6 +533,31 @@ fn run_of(random: &mut Random, length: usize, mood: Mood) -> (usize, usize) {
     let left = longest.min(length - first);
     let some = 1 + random.place(left);
     (first, random.one_of(&[left, some]))
+}
+
+/// The record names as many words as any, as far behind in the catalogue as any.
+pub fn the_most_words(cabinet: &mut Cabinet, k: usize) {
+    let most = MOST_REGION_PLACE as usize;
+    if cabinet.catalogue.len() < 2 * most {
+        cabinet.catalogue.resize(2 * most, 1);
+    }
+    let words = &cabinet.catalogue[most..2 * most];
+    let record = &mut cabinet.table.records[k];
+    record.cost = words.iter().fold(0, |sum, word| sum.saturating_add(*word));
+    (record.first, record.count) = (most as u32, most as u32);
+    record.source = Source::Catalogue;
+}
+
+/// The record names a single own word, as long as any; it stays as it is where no word can be added.
+pub fn the_longest_word(cabinet: &mut Cabinet, k: usize) {
+    let place = cabinet.own.len();
+    if place >= MOST_REGION_WORDS {
+        return;
+    }
+    cabinet.own.push(MOST_TICKS);
+    let record = &mut cabinet.table.records[k];
+    (record.source, record.cost) = (Source::Own, MOST_TICKS);
+    (record.first, record.count) = (place as u32, 1);
 }
 
 /// The record names this run. Its cost is the run's sum, so mostly its period and deadline grow

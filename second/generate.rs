@@ -5,18 +5,20 @@
 
 use crate::analysis::{active_period, arrived, Tasks};
 use crate::checks::{numbers_wrong, task_count_wrong};
+use crate::cut::{cut_anew, cut_far, no_t_or_one, to_the_limit, whole_horizon};
 use crate::draw::*;
 use crate::file::{self, Edition};
 use crate::later::{later_jobs, later_row};
+use crate::lengths::lengths;
 use crate::listing::{Row, Walk};
 use crate::random::Random;
 use crate::spoil::*;
 use crate::table::*;
 
 /// The kinds as often as they are drawn: more often those that have more to reach.
-const KINDS: [u8; 35] = [
-    1, 1, 1, 2, 2, 3, 3, 3, 4, 4, 5, 5, 5, 6, 6, 6, 6, 7, 7, 7, 8, 8, 8, 9, 9, 9, 10, 10, 10, 11,
-    11, 11, 14, 14, 14,
+const KINDS: [u8; 54] = [
+    1, 1, 1, 1, 2, 2, 2, 3, 3, 3, 3, 4, 4, 4, 5, 5, 5, 5, 6, 6, 6, 6, 6, 6, 7, 7, 7, 8, 8, 8, 8, 9,
+    9, 9, 9, 10, 10, 10, 11, 11, 11, 11, 12, 12, 12, 13, 13, 13, 13, 13, 14, 14, 14, 14,
 ];
 
 /// How many single requests stand between two files that are cut at every length and blanked in
@@ -35,7 +37,9 @@ pub fn stream(seed: u64, count: u64, out: &mut impl FnMut(&[u8])) {
         }
         if k % BETWEEN_CUTS == 0 {
             let mut cabinet = any_cabinet(random);
-            give_edition(random, &mut cabinet);
+            // In turn: there are few of them, and each stands in hundreds of requests.
+            let turn = (k / BETWEEN_CUTS) as usize % Edition::BOTH.len();
+            give_this_edition(random, &mut cabinet, Edition::BOTH[turn]);
             every_cut(&cabinet, out);
             every_zero(&cabinet, out);
         }
@@ -263,7 +267,8 @@ fn body(random: &mut Random, kind: u8) -> Vec<u8> {
         2 | 14 => of_writing(random, kind),
         3..=6 => of_analysis(random, kind),
         7 | 8 => of_rows(random, kind),
-        10 => of_regions(random),
+        10 | 12 => of_regions(random),
+        13 => of_points(random),
         _ => of_a_name(random),
     }
 }
@@ -284,7 +289,7 @@ fn any_cabinet(random: &mut Random) -> Cabinet {
 }
 
 /// How often a file that is drawn is as long as any, and how often it is as short.
-const LIMITS_ONCE_IN: u32 = 30;
+const LIMITS_ONCE_IN: u32 = 20;
 
 /// Reading, and a record out of a file.
 fn of_a_file(random: &mut Random, kind: u8) -> Vec<u8> {
@@ -472,6 +477,79 @@ fn aimed_regions(random: &mut Random, cabinet: &mut Cabinet) {
     }
 }
 
+/// The longest search over t that is asked for, but for one in so many: the t of all tasks, each as
+/// often as tasks are above. All are gone through where a task is not shown.
+const MOST_T_TRIED: u64 = 200_000;
+const LONG_SEARCH_ONCE_IN: u32 = 20;
+/// Of the tables of so few tasks one in so many has deadlines as long as any.
+const FEW_SEARCHED: u8 = 4;
+const FAR_SEARCH_ONCE_IN: u32 = 8;
+
+/// How often a table of the most tasks says that it has more, or none.
+const WRONG_N_ONCE_IN: u32 = 14;
+
+/// Fixed preemption points.
+fn of_points(random: &mut Random) -> Vec<u8> {
+    let mut cabinet = points_cabinet(random);
+    let full = cabinet.table.n as usize == MOST_TASKS;
+    wrong_jitter_once_in(WRONG_JITTER_ONCE_IN, random, &mut cabinet.table);
+    if is_late(&cabinet.table) && random.once_in(TWO_OF_16_ONCE_IN) {
+        two_of_16(random, &mut cabinet.table);
+    } else if full && random.once_in(WRONG_N_ONCE_IN) {
+        cabinet.table.n = wrong_n(random);
+    } else if random.once_in(2) {
+        spoil(
+            random,
+            &mut cabinet,
+            &[0, 0, 5, 9, 9, 10, 11, 11, 14, 15, 16],
+        );
+    }
+    let mut body = Vec::new();
+    put_table(&mut body, &cabinet.table);
+    put_words(&mut body, &cabinet.own);
+    put_words(&mut body, &cabinet.catalogue);
+    body
+}
+
+/// Tables drawn for this test, or such as the region check has; and of either those in which a task
+/// just passes, or just doesn't.
+fn points_cabinet(random: &mut Random) -> Cabinet {
+    let mut cabinet = loop {
+        let mut cabinet = any_cabinet(random);
+        if random.once_in(2) {
+            aimed_tolerances(random, &mut cabinet, 6);
+        } else {
+            cut_anew(random, &mut cabinet);
+        }
+        if t_tried(&cabinet.table) <= MOST_T_TRIED || random.once_in(LONG_SEARCH_ONCE_IN) {
+            break cabinet;
+        }
+    };
+    if cabinet.table.n <= FEW_SEARCHED && random.once_in(FAR_SEARCH_ONCE_IN) {
+        cut_far(random, &mut cabinet);
+    }
+    match random.from(0, 19) {
+        0 | 1 => no_t_or_one(random, &mut cabinet),
+        2 if random.once_in(6) => whole_horizon(random, &mut cabinet),
+        3..=14 => to_the_limit(random, &mut cabinet),
+        _ => {}
+    }
+    cabinet
+}
+
+/// How many t a search over this table tries at the most. The lowest task needs none.
+fn t_tried(table: &Table) -> u64 {
+    if lengths(table).is_err() {
+        return 0;
+    }
+    let above = |task: &Record| task.priority as u64 - 1;
+    let searched = |task: &&Record| task.priority < table.n as u32;
+    let tasks = table.tasks().iter().filter(searched);
+    tasks
+        .map(|task| task.deadline as u64 * above(task).max(1))
+        .sum()
+}
+
 /// A row is searched for. Of few tasks all rows can be walked over; of many the table is drawn so
 /// that the search ends soon. Either way it is tried whether it does. Whether tasks are late is
 /// settled before, so that it stays half of the tables.
@@ -590,6 +668,11 @@ fn spoilt_row(random: &mut Random, mut row: Vec<u8>) -> Vec<u8> {
     row
 }
 
+/// Of so many records that are asked for two have regions that are wrong, one has the most of them and
+/// one the longest.
+const ASKED_FOR_ONCE_IN: u32 = 25;
+
+/// A task's regions, or the last of them.
 fn of_regions(random: &mut Random) -> Vec<u8> {
     let mut cabinet = any_cabinet(random);
     give_jitters(random, &mut cabinet.table);
@@ -598,8 +681,16 @@ fn of_regions(random: &mut Random) -> Vec<u8> {
     if cabinet.table.n > 1 && random.once_in(6) {
         cabinet.table.n -= 1;
     }
+    let number = record_number(random, cabinet.table.n);
+    let place = (number as usize).wrapping_sub(1);
+    match random.from(1, ASKED_FOR_ONCE_IN) {
+        1 | 2 => wrong_region(random, &mut cabinet, number),
+        3 if place < MOST_TASKS => the_most_words(&mut cabinet, place),
+        4 if place < MOST_TASKS => the_longest_word(&mut cabinet, place),
+        _ => {}
+    }
     let mut body = Vec::new();
-    put_two(&mut body, record_number(random, cabinet.table.n));
+    put_two(&mut body, number);
     put_table(&mut body, &cabinet.table);
     put_words(&mut body, &cabinet.own);
     put_words(&mut body, &cabinet.catalogue);

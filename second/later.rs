@@ -361,7 +361,7 @@ fn longest_period(few: &Few) -> u64 {
 }
 
 /// So many costs, each a tick at least, that add up to this one.
-fn split(random: &mut Random, cost: u32, count: usize) -> Vec<u32> {
+pub fn split(random: &mut Random, cost: u32, count: usize) -> Vec<u32> {
     let mut left = cost;
     let mut costs = Vec::new();
     for others in (1..count as u32).rev() {

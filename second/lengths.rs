@@ -111,6 +111,6 @@ fn length(tasks: &Tasks, tolerances: &[i64], k: usize) -> i64 {
 }
 
 /// The tasks of higher priority than i.
-fn above(tasks: &Tasks, i: usize) -> impl Iterator<Item = usize> + '_ {
+pub fn above(tasks: &Tasks, i: usize) -> impl Iterator<Item = usize> + '_ {
     (0..tasks.n).filter(move |j| tasks.priority[*j] < tasks.priority[i])
 }

@@ -8,6 +8,8 @@ mod files;
 mod jitters;
 mod other_rules;
 mod parts_calls;
+mod points;
+mod points_rules;
 mod rows;
 mod tables;
 
@@ -20,6 +22,7 @@ use crate::file::{self, Edition};
 use crate::later::{differences, reaching};
 use crate::lengths;
 use crate::listing::Row;
+use crate::margins::{end_of_stretch, Cut};
 use crate::reach::{Tally, LEAST};
 use crate::spoil::{blank_plates, Zero, ALONE, BLANKS};
 use crate::table::*;
@@ -39,6 +42,8 @@ const ANSWERS: [&[&str]; CALLS.len()] = [
     &["record"],
     &["regions"],
     &["name"],
+    &["last"],
+    &["points"],
     &["file"],
 ];
 
@@ -63,8 +68,10 @@ const MEETINGS: [&[(u8, u8)]; CALLS.len()] = [
     &[(1, 2), (1, 18), (2, 18), (2, 3), (2, 4), (2, 5), (2, 6), (2, 7), (2, 8), (2, 9), (2, 10),
       (2, 11), (2, 13), (18, 3), (18, 4), (18, 5), (18, 7), (18, 13),
       (3, 4), (4, 5), (5, 6), (6, 7), (7, 8), (8, 9), (9, 10), (10, 11), (11, 13)],
-    &[(5, 13)],
+    &[(5, 13), (5, 11)],
     &[(9, 13)],
+    &[(5, 13), (5, 11)],
+    &[(5, 9), (9, 10), (10, 11), (11, 14), (14, 15), (15, 16)],
     &[(2, 5), (2, 18), (2, 9), (2, 10), (2, 11), (2, 12),
       (5, 18), (5, 9), (18, 9), (18, 10), (18, 11), (18, 12), (9, 10), (10, 11), (11, 12),
       (5, 19), (18, 19), (9, 19), (10, 19), (11, 19), (19, 12)],
@@ -139,7 +146,9 @@ pub fn of_request(tally: &mut Tally, kind: u8, body: &[u8], line: &str) -> Optio
         7 => rows::of_first_row(tally, body, answer),
         8 => rows::of_next_row(tally, body, answer),
         9 => files::of_record(tally, body, answer),
-        10 => parts_calls::of_regions(tally, body, answer),
+        10 => parts_calls::of_regions(tally, 10, body, answer),
+        12 => points::of_last_region(tally, body, answer),
+        13 => points::of_points(tally, body, answer),
         _ => parts_calls::of_name(tally, body, answer),
     }
 }

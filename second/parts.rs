@@ -1,4 +1,4 @@
-//! Parts handed back (document 01, the section of that name).
+//! Parts handed back (document 01, the section of that name, and document 02, item 2).
 
 use crate::checks::{self, *};
 use crate::file::{read_checked, HEAD_BYTES};
@@ -38,6 +38,18 @@ pub fn regions<'a>(
     refuse(13, no_such_record(table, number))?;
     let task = &table.records[number as usize - 1];
     checks::regions(task, own, catalogue).ok_or(Refusal::of(11))
+}
+
+/// The last of a task's regions, one word of the list that they stand in (document 02, item 2). Asks
+/// what the regions' own call asks; a count of 0 is 11, so there is a last one.
+pub fn last_region<'a>(
+    table: &Table,
+    own: &'a [u32],
+    catalogue: &'a [u32],
+    number: u16,
+) -> Result<&'a [u32], Refusal> {
+    let words = regions(table, own, catalogue, number)?;
+    Ok(&words[words.len() - 1..])
 }
 
 /// Records are numbered 1 to n.

@@ -31,8 +31,16 @@ pub struct Tally {
 struct Thing {
     came: u64,
     wanted: u64,
-    /// Where it is wanted as a share of its call's requests: so many in so many.
-    share: Option<(u64, u64)>,
+    /// Where it is wanted as a share.
+    share: Option<Share>,
+}
+
+/// So many times in so many requests of the call, those that are turned away among them or not.
+#[derive(Clone, Copy)]
+struct Share {
+    part: u64,
+    whole: u64,
+    turned_away_too: bool,
 }
 
 impl Thing {
@@ -46,11 +54,23 @@ impl Thing {
             0
         }
     }
+}
 
-    /// Whether it is wanted as a share of its call's requests, and came less often.
-    fn falls_short(&self, requests: u64) -> bool {
-        let short = |(part, whole)| self.came * whole < requests * part;
-        self.share.is_some_and(short)
+impl Share {
+    /// Of how many requests it is a share, and what these are called.
+    fn of(&self, tally: &Tally) -> (u64, &'static str) {
+        if self.turned_away_too {
+            (tally.requests, "answers")
+        } else {
+            (
+                tally.requests - tally.turned_away,
+                "answers not turned away",
+            )
+        }
+    }
+
+    fn falls_short(&self, came: u64, tally: &Tally) -> bool {
+        came * self.whole < self.of(tally).0 * self.part
     }
 }
 
@@ -67,11 +87,26 @@ impl Tally {
 
     /// Notes a thing that is to come so many times in so many requests of the call, those that are
     /// turned away among them.
-    pub fn note_share(&mut self, share: (u64, u64), what: &str, came: bool) {
+    pub fn note_share(&mut self, (part, whole): (u64, u64), what: &str, came: bool) {
+        let share = Share {
+            part,
+            whole,
+            turned_away_too: true,
+        };
         self.note_thing(LEAST, Some(share), what, came);
     }
 
-    fn note_thing(&mut self, wanted: u64, share: Option<(u64, u64)>, what: &str, came: bool) {
+    /// The same of the requests that are not turned away.
+    pub fn note_share_of_taken(&mut self, (part, whole): (u64, u64), what: &str, came: bool) {
+        let share = Share {
+            part,
+            whole,
+            turned_away_too: false,
+        };
+        self.note_thing(LEAST, Some(share), what, came);
+    }
+
+    fn note_thing(&mut self, wanted: u64, share: Option<Share>, what: &str, came: bool) {
         if let Some(thing) = self.things.get_mut(what) {
             thing.came += came as u64;
             return;
@@ -145,7 +180,7 @@ fn request(requests: &mut impl Read) -> Result<(u8, usize, Vec<u8>), Stop> {
 fn print(tallies: &[Tally], output: &mut impl Write) -> Result<(), Stop> {
     writeln!(
         output,
-        "{:<14} {:>8} {:>11} {:>8} {:>6}  rarest",
+        "{:<23} {:>8} {:>11} {:>8} {:>6}  rarest",
         "call", "requests", "turned away", "answered", "things"
     )?;
     for ((_, call, _), tally) in CALLS.iter().zip(tallies) {
@@ -156,7 +191,7 @@ fn print(tallies: &[Tally], output: &mut impl Write) -> Result<(), Stop> {
         });
         writeln!(
             output,
-            "{:<14} {:>8} {:>11} {:>8} {:>6}  {rarest}",
+            "{:<23} {:>8} {:>11} {:>8} {:>6}  {rarest}",
             call,
             tally.requests,
             tally.turned_away,
@@ -170,16 +205,17 @@ fn print(tallies: &[Tally], output: &mut impl Write) -> Result<(), Stop> {
     Ok(())
 }
 
-/// A line for each thing that is wanted as a share of its call's requests.
+/// A line for each thing that is wanted as a share.
 fn shares(tallies: &[Tally]) -> Vec<String> {
     let mut lines = Vec::new();
     for ((_, call, _), tally) in CALLS.iter().zip(tallies) {
         for (what, thing) in tally.sorted() {
-            if let Some((part, whole)) = thing.share {
-                let (came, requests) = (thing.came, tally.requests);
-                let share = 100.0 * came as f64 / requests as f64;
+            if let Some(share) = thing.share {
+                let Share { part, whole, .. } = share;
+                let (came, (requests, called)) = (thing.came, share.of(tally));
+                let hundredths = 100.0 * came as f64 / requests as f64;
                 lines.push(format!(
-                    "{call}, {what}: {came} of {requests} answers, {share:.1} in a hundred; wanted {part} in {whole}"
+                    "{call}, {what}: {came} of {requests} {called}, {hundredths:.1} in a hundred; wanted {part} in {whole}"
                 ));
             }
         }
@@ -204,12 +240,16 @@ fn missing(tallies: &[Tally], count: u64) -> Vec<String> {
                     "{call}, {what}: came {} times, wanted {wanted}",
                     thing.came
                 ));
-            } else if let (true, Some((part, whole))) =
-                (thing.falls_short(tally.requests), thing.share)
-            {
+                continue;
+            }
+            let share = thing
+                .share
+                .filter(|share| share.falls_short(thing.came, tally));
+            if let Some(share) = share {
+                let Share { part, whole, .. } = share;
+                let (came, (requests, called)) = (thing.came, share.of(tally));
                 lines.push(format!(
-                    "{call}, {what}: came {} times in {} answers, wanted {part} in {whole}",
-                    thing.came, tally.requests
+                    "{call}, {what}: came {came} times in {requests} {called}, wanted {part} in {whole}"
                 ));
             }
         }
@@ -255,4 +295,24 @@ fn a_share_of_a_call() {
     let short = ["response times, shared: came 20 times in 1001 answers, wanted 1 in 50"];
     assert_eq!(missing(&tallies, SOME), short);
     assert_eq!(missing(&tallies, MANY), short);
+}
+
+/// One in five of those that are not turned away: at 20 of 100 it is kept, at 20 of 101 it isn't.
+#[test]
+fn a_share_of_the_taken() {
+    let mut tallies: [Tally; CALLS.len()] = Default::default();
+    for tally in &mut tallies {
+        (tally.requests, tally.turned_away) = (1_000, 900);
+    }
+    for _ in 0..20 {
+        tallies[2].note_share_of_taken((1, 5), "shared", true);
+    }
+    assert!(missing(&tallies, MANY).is_empty());
+    let said =
+        "response times, shared: 20 of 100 answers not turned away, 20.0 in a hundred; wanted 1 in 5";
+    assert_eq!(shares(&tallies), [said]);
+    tallies[2].turned_away -= 1;
+    let short =
+        ["response times, shared: came 20 times in 101 answers not turned away, wanted 1 in 5"];
+    assert_eq!(missing(&tallies, SOME), short);
 }

@@ -171,6 +171,27 @@ fn wrong_word(random: &mut Random, list: &mut [u32]) {
     }
 }
 
+/// A region of the record with this number is out of its range, or it names 128 as a place or a count;
+/// nothing happens where there is no such record, or it names no such word.
+pub fn wrong_region(random: &mut Random, cabinet: &mut Cabinet, number: u32) {
+    let place = (number as usize).wrapping_sub(1);
+    let Some(record) = cabinet.table.records.get(place) else {
+        return;
+    };
+    if random.once_in(2) {
+        return one_past_the_last(random, cabinet, place);
+    }
+    let list = match record.source {
+        Source::Own => &mut cabinet.own,
+        Source::Catalogue => &mut cabinet.catalogue,
+    };
+    let first = record.first as usize;
+    let words = list.get_mut(first..first.saturating_add(record.count as usize));
+    if let Some(words) = words {
+        wrong_word(random, words);
+    }
+}
+
 pub fn clear(table: &mut Table) {
     for record in &mut table.records {
         (record.priority, record.threshold) = (0, 0);
@@ -326,7 +347,7 @@ fn spoil_file(random: &mut Random, cabinet: &Cabinet, file: &mut Vec<u8>) {
         }
         14 => {
             other_edition(random, cabinet, file);
-            if !random.once_in(3) {
+            if random.once_in(2) {
                 seal_again(file);
             }
         }

@@ -11,6 +11,7 @@ mod files;
 mod jitter;
 mod list;
 mod making;
+mod points;
 mod reach;
 mod refusals;
 mod samples;

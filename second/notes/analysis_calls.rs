@@ -5,7 +5,7 @@ use super::*;
 use std::ops::RangeInclusive;
 
 /// How often a thing is wanted that comes beside one aimed at.
-const HALF_AS_OFTEN: u64 = AIMED_AT / 2;
+pub const HALF_AS_OFTEN: u64 = AIMED_AT / 2;
 
 pub fn of_times(tally: &mut Tally, mut body: Body, answer: &Answer) -> Option<()> {
     let table = body.table()?;
@@ -357,13 +357,13 @@ fn refused_16(place: usize) -> String {
 
 /// The tasks of a table with a jitter that came as far as its tolerances, these by the right rule,
 /// and what was answered; no tasks otherwise.
-struct LateTolerances<'a> {
+pub struct LateTolerances<'a> {
     tasks: Tasks,
     right: Vec<Option<i64>>,
     line: &'a str,
 }
 
-fn late_tolerances<'a>(table: &Table, answer: &Answer<'a>) -> LateTolerances<'a> {
+pub fn late_tolerances<'a>(table: &Table, answer: &Answer<'a>) -> LateTolerances<'a> {
     let mut tasks = Tasks::of(&held(table));
     if !is_late(table) || !(answer.taken() || answer.refused(16)) {
         tasks.n = 0;
@@ -431,7 +431,7 @@ fn lengths_line(lengths: &[i64]) -> String {
 }
 
 /// Which answers of lengths and of the region check tell rules apart that item 8 shuts out.
-fn note_other_tolerances(
+pub fn note_other_tolerances(
     tally: &mut Tally,
     late: &LateTolerances,
     line: impl Fn(&[i64]) -> String,
@@ -447,7 +447,7 @@ fn note_other_tolerances(
 
 /// The two ways to 16 beside each other. Tolerances and the calls that ask 16 of those below zero
 /// too name another record where the one below zero is the first.
-fn note_16(tally: &mut Tally, late: &LateTolerances, answer: &Answer) {
+pub fn note_16(tally: &mut Tally, late: &LateTolerances, answer: &Answer) {
     let (none, below) = late.firsts();
     let refused = answer.refused(16);
     tally.note("16 by no t", refused && none.is_some());
@@ -504,7 +504,7 @@ pub fn of_lengths(tally: &mut Tally, mut body: Body, answer: &Answer) -> Option<
 }
 
 /// A task that doesn't fit before its deadline even by itself.
-fn too_short(task: &Record) -> bool {
+pub fn too_short(task: &Record) -> bool {
     task.cost as u64 + task.jitter as u64 > task.deadline as u64
 }
 
@@ -550,7 +550,7 @@ fn least_above(table: &Table) -> Vec<Option<i64>> {
 }
 
 /// Which record a refusal 16 names.
-fn note_below_zero(tally: &mut Tally, table: &Table, answer: &Answer) {
+pub fn note_below_zero(tally: &mut Tally, table: &Table, answer: &Answer) {
     let tolerances = if answer.refused(16) {
         tolerances_by(&Tasks::of(table), RIGHT_TOLERANCE)
     } else {

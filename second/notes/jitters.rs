@@ -31,11 +31,11 @@ fn note_taken(tally: &mut Tally, kind: u8, table: &Table, answer: &Answer) {
     let came = match kind {
         2 => answer.refused(19),
         14 => answer.taken() || answer.refused(19),
-        4..=6 => answer.taken() || answer.refused(16),
+        4..=6 | 13 => answer.taken() || answer.refused(16),
         _ => answer.taken(),
     };
     // A deadline is nothing to writing and to regions.
-    let by_deadline = if [2, 10, 14].contains(&kind) {
+    let by_deadline = if [2, 10, 12, 14].contains(&kind) {
         SELDOM
     } else {
         LEAST

@@ -38,7 +38,7 @@ enum Counted {
 
 /// Whose jitter stands beside the argument of a ceiling or floor.
 #[derive(Clone, Copy, PartialEq)]
-enum Late {
+pub enum Late {
     /// J(j) of each task.
     OfEach,
     OfNone,
@@ -49,7 +49,7 @@ enum Late {
 }
 
 /// The tasks with the jitters that a sum of task i reads.
-fn read_by(tasks: &Tasks, i: usize, late: Late) -> Tasks {
+pub fn read_by(tasks: &Tasks, i: usize, late: Late) -> Tasks {
     let mut tasks = *tasks;
     match late {
         Late::OfEach => {}

@@ -1,28 +1,29 @@
-//! What regions and names reach.
+//! What regions and names reach, and what a last region reaches in common with regions.
 
 use super::*;
 
-pub fn of_regions(tally: &mut Tally, mut body: Body, answer: &Answer) -> Option<()> {
+pub fn of_regions(tally: &mut Tally, kind: u8, mut body: Body, answer: &Answer) -> Option<()> {
     let number = body.two()?;
     let table = body.table()?;
     let own = body.words()?;
     let catalogue = body.words()?;
     let seen = held(&table);
-    let mut faults = table_faults(&table, Some((&own, &catalogue)));
+    let alone = alone(&table, number);
+    let slot_holds = alone.n == 1 && !region_is_wrong(&alone, &own, &catalogue);
+    // Regions of other records are nothing to these calls.
+    let mut faults = Faults(Vec::new());
+    faults.add(
+        5,
+        task_count_wrong(table.n) || region_count_wrong(own.len()),
+    );
     faults.add(13, number == 0 || number > table.n as u16);
-    faults.note_meetings(tally, 10, answer);
+    faults.add(11, alone.n == 1 && !slot_holds);
+    faults.note_meetings(tally, kind, answer);
     note_counts(tally, table.n, Some(own.len()), answer);
-    note_jitters(tally, 10, &table, answer);
+    note_jitters(tally, kind, &table, answer);
     note_record_number(tally, number, table.n, answer);
-    // The record asked for stands alone, as in a table of one.
-    let mut alone = Table::default();
-    let place = (number as usize).wrapping_sub(1);
-    if let Some(record) = table.records.get(place) {
-        (alone.n, alone.records[0]) = (1, *record);
-    }
     note_lists_of_one(tally, &alone, &own, &catalogue, answer);
     note_places(tally, &alone, (&own, &catalogue), answer);
-    let slot_holds = alone.n == 1 && !region_is_wrong(&alone, &own, &catalogue);
     let past = answer.refused(13) && slot_holds;
     tally.note("a record past n whose regions hold turned away", past);
     let others = seen.n > 1 && regions_wrong(&seen, &own, &catalogue);
@@ -34,6 +35,16 @@ pub fn of_regions(tally: &mut Tally, mut body: Body, answer: &Answer) -> Option<
     let jitter = numbers && !numbers_wrong(&without_jitters(&seen));
     tally.note("answered for a table with a bad jitter alone", jitter);
     Some(())
+}
+
+/// The record asked for alone, as in a table of one; a table of none where there is no such place.
+pub fn alone(table: &Table, number: u16) -> Table {
+    let mut alone = Table::default();
+    let place = (number as usize).wrapping_sub(1);
+    if let Some(record) = table.records.get(place) {
+        (alone.n, alone.records[0]) = (1, *record);
+    }
+    alone
 }
 
 fn region_is_wrong(alone: &Table, own: &[u32], catalogue: &[u32]) -> bool {

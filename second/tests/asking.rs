@@ -294,6 +294,68 @@ fn kinds_9_to_11_parts() {
     assert_eq!(name(300), "refused 9");
 }
 
+/// Document 02, item 2: the line of the last region, a word of either list.
+#[test]
+fn kind_12_last_region() {
+    let (mut table, _) = two_jobs();
+    table.records[1].count = 2;
+    let own = [2, 3, 1];
+    let last = |table: &Table, number| {
+        let body = start().two(number).table(table);
+        answer(12, body.words(&own).words(&[9, 0, 4]))
+    };
+    assert_eq!(last(&table, 1), "last 2");
+    assert_eq!(last(&table, 2), "last 1");
+    assert_eq!(last(&table, 0), "refused 13");
+    assert_eq!(last(&table, 3), "refused 13");
+    (table.records[1].source, table.records[1].first) = (Source::Catalogue, 2);
+    assert_eq!(last(&table, 2), "refused 11");
+    table.records[1].count = 1;
+    assert_eq!(last(&table, 2), "last 4");
+    table.n = 16;
+    assert_eq!(last(&table, 2), "refused 5");
+}
+
+/// A word for each task, in the order of the records. A task that isn't shown to pass isn't said to
+/// fail.
+#[test]
+fn kind_13_fixed_points() {
+    let (mut table, own) = two_jobs();
+    let points = |table: &Table, own: &[u32], lent: &[u32]| {
+        answer(13, start().table(table).words(own).words(lent))
+    };
+    assert_eq!(points(&table, &own, &[]), "points unshown passes");
+    table.records[1].count = 2;
+    assert_eq!(points(&table, &[2, 3, 1], &[]), "points passes passes");
+    assert_eq!(points(&table, &[2, 3, 2], &[]), "refused 11");
+    table.records[1].source = Source::Catalogue;
+    assert_eq!(points(&table, &[2], &[9, 1, 3]), "points passes passes");
+    table.records[0].deadline = 1;
+    assert_eq!(points(&table, &[2], &[9, 1, 3]), "refused 16 record 1");
+    let mut one = assigned(&[(3, 5, 3)], &[1], &[1]);
+    let own = whole_regions(&mut one);
+    assert_eq!(points(&one, &own, &[]), "points passes");
+    one.n = 0;
+    assert_eq!(points(&one, &own, &[]), "refused 5");
+}
+
+/// Neither is the other, and neither takes a byte more or less.
+#[test]
+fn kinds_12_and_13_with_another_body() {
+    let (table, own) = two_jobs();
+    let lists = |body: Body| body.words(&own).words(&[3]);
+    let of_12 = lists(start().two(1).table(&table));
+    let of_13 = lists(start().table(&table));
+    for (kind, body) in [(12, &of_12), (13, &of_13)] {
+        for length in 0..body.0.len() {
+            let cut = Body(body.0[..length].to_vec());
+            assert_eq!(answer(kind, cut), "bad request", "{kind} {length}");
+        }
+        assert_eq!(answer(kind, body.clone().two(0)), "bad request");
+        assert_eq!(answer(25 - kind, body.clone()), "bad request");
+    }
+}
+
 /// A plate of cabinet 0 or line 0 is 18, and nothing that was lent is touched.
 #[test]
 fn blank_plates() {
@@ -368,8 +430,8 @@ fn bad_requests() {
     }
     assert_eq!(answer(3, start().table(&table).two(0)), "bad request");
     assert_eq!(answer(3, start()), "bad request");
-    // Of those between the known kinds none has landed.
-    for kind in [0, 12, 13, 15, 16, 17, 18, 19, 20, NO_KIND] {
+    // Of those behind the known kinds none has landed.
+    for kind in [0, 15, 16, 17, 18, 19, 20, NO_KIND] {
         assert_eq!(answer(kind, start()), "bad request");
         assert_eq!(answer(kind, start().table(&table)), "bad request");
     }

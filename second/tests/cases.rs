@@ -52,8 +52,8 @@ fn n_of(kind: u8, body: &[u8]) -> Option<u8> {
             body.two()?;
             Some(body.table()?.n)
         }
-        3..=6 => Some(body.table()?.n),
-        7 | 8 | 10 => {
+        3..=6 | 13 => Some(body.table()?.n),
+        7 | 8 | 10 | 12 => {
             body.two()?;
             Some(body.table()?.n)
         }
@@ -62,7 +62,7 @@ fn n_of(kind: u8, body: &[u8]) -> Option<u8> {
 }
 
 /// Kinds that ask 5, and how an answer of theirs for fifteen tasks begins.
-const ASK_5: [(u8, &str); 11] = [
+const ASK_5: [(u8, &str); 13] = [
     (1, "table 15 "),
     (2, "file 440 "),
     (3, "times "),
@@ -73,6 +73,8 @@ const ASK_5: [(u8, &str); 11] = [
     (8, "row out "),
     (9, "record "),
     (10, "regions "),
+    (12, "last "),
+    (13, "points "),
     (14, "file 485 "),
 ];
 
@@ -131,7 +133,7 @@ fn the_number_of_records_alone_is_wrong() {
 #[test]
 fn n_alone_is_wrong() {
     let requests = stored();
-    for kind in [2, 3, 4, 5, 6, 7, 8, 10, 14] {
+    for kind in [2, 3, 4, 5, 6, 7, 8, 10, 12, 13, 14] {
         for n in [0, 16] {
             let mended = requests.iter().any(|(k, body, _)| {
                 if *k != kind || n_of(kind, body) != Some(n) {
@@ -141,7 +143,7 @@ fn n_alone_is_wrong() {
                 let place = match kind {
                     2 => 8,
                     14 => 9,
-                    7 | 8 | 10 => 2,
+                    7 | 8 | 10 | 12 => 2,
                     _ => 0,
                 };
                 body[place] = 15;

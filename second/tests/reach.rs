@@ -72,6 +72,26 @@ fn a_missing_outcome_is_named() {
             "regions, refused 13: came 0 times, wanted 1",
         ),
         (
+            12,
+            "refused 13",
+            "last region, refused 13: came 0 times, wanted 1",
+        ),
+        (
+            12,
+            "last",
+            "last region, another word by the first region: came 0 times, wanted 1",
+        ),
+        (
+            13,
+            "refused 11",
+            "fixed preemption points, 11 before 14: came 0 times, wanted 1",
+        ),
+        (
+            13,
+            "points",
+            "fixed preemption points, another answer by alpha less one: came 0 times, wanted 1",
+        ),
+        (
             14,
             "refused 2 ",
             "write an edition, another answer by four bits of the edition: came 0 times, wanted 1",
@@ -161,6 +181,118 @@ fn too_few_later_jobs_are_named() {
     let said = missing(&whole, &answers(&whole)).expect("too few");
     let line = "response times, a worst job above 0: came 10 times in ";
     assert!(said.lines().any(|said| said.starts_with(line)), "{said}");
+}
+
+/// The verdicts on a request of fixed preemption points, but for the lowest task's; nothing where it is
+/// turned away, or is another request.
+fn verdicts_above(request: &[u8]) -> Option<Vec<bool>> {
+    if request[0] != 13 {
+        return None;
+    }
+    let line = String::from_utf8(answers(request)).expect("text");
+    let said = line.trim_end().strip_prefix("points ")?;
+    let table = ask::Body(&request[3..]).table().expect("a table");
+    let tasks = said.split(' ').zip(table.tasks());
+    let above = tasks.filter(|(_, task)| task.priority < table.n as u32);
+    Some(above.map(|(said, _)| said == "passes").collect())
+}
+
+/// Of a stream that has ten answers with a task that is not shown, or ten in which one above the lowest
+/// passes, or ten in which all do, it is said that they are too few.
+#[test]
+fn too_few_verdicts_are_named() {
+    let requests = requests(5, COUNT + 4_000);
+    let cases: [(&str, fn(&[bool]) -> bool); 3] = [
+        ("unshown", |passes| passes.contains(&false)),
+        ("a task that isn't the lowest passes", |passes| {
+            passes.contains(&true)
+        }),
+        ("every task passes", |passes| !passes.contains(&false)),
+    ];
+    for (what, has) in cases {
+        let has = |request: &Vec<u8>| verdicts_above(request).is_some_and(|passes| has(&passes));
+        let (with, mut stream): (Vec<_>, Vec<_>) = requests.iter().cloned().partition(has);
+        stream.extend(with[..10].iter().cloned());
+        let whole = stream.concat();
+        let said = missing(&whole, &answers(&whole)).expect("too few");
+        let begin = format!("fixed preemption points, {what}: came 10 times in ");
+        let of_taken = |said: &str| {
+            said.starts_with(&begin) && said.ends_with(" answers not turned away, wanted 1 in 5")
+        };
+        assert!(said.lines().any(of_taken), "{said}");
+    }
+}
+
+/// With none at all it is said that they never came.
+#[test]
+fn missing_verdicts_are_named() {
+    let requests = requests(5, COUNT + 4_000);
+    for (word, what) in [
+        (false, "unshown"),
+        (true, "a task that isn't the lowest passes"),
+    ] {
+        let has = |request: &&Vec<u8>| {
+            let passes = verdicts_above(request);
+            passes.is_some_and(|passes| passes.contains(&word))
+        };
+        let stream: Vec<u8> = requests
+            .iter()
+            .filter(|request| !has(request))
+            .flatten()
+            .copied()
+            .collect();
+        let said = missing(&stream, &answers(&stream)).expect("none");
+        let line = format!("fixed preemption points, {what}: came 0 times, wanted 1");
+        assert!(said.lines().any(|said| said == line), "{said}");
+    }
+}
+
+/// A verdict for each task, and nothing can hold the lowest up.
+#[test]
+fn other_verdicts_fail() {
+    let (table, own) = two_jobs();
+    let mut body = Vec::new();
+    generate::put_table(&mut body, &table);
+    generate::put_words(&mut body, &own);
+    generate::put_words(&mut body, &[]);
+    let stream = stream_of(13, &body);
+    let right = "points unshown passes";
+    assert_eq!(answers(&stream), format!("{right}\n").as_bytes());
+    assert_eq!(missing(&stream, right.as_bytes()), None);
+    for wrong in [
+        "points",
+        "points passes",
+        "points passes unshown",
+        "points unshown unshown",
+        "points unshown passes passes",
+        "points fails passes",
+        "points unshown  passes",
+    ] {
+        let said = missing(&stream, wrong.as_bytes()).expect("a failure");
+        let line = format!("request 1: fixed preemption points can't answer `{wrong}`");
+        assert_eq!(said, line);
+    }
+}
+
+/// The last region is one word.
+#[test]
+fn other_last_regions_fail() {
+    let (table, own) = two_jobs();
+    let mut body = Vec::new();
+    generate::put_two(&mut body, 2);
+    generate::put_table(&mut body, &table);
+    generate::put_words(&mut body, &own);
+    generate::put_words(&mut body, &[]);
+    let stream = stream_of(12, &body);
+    assert_eq!(answers(&stream), b"last 4\n");
+    assert_eq!(missing(&stream, b"last 4"), None);
+    for wrong in ["last", "last 2 4", "last four", "regions 4"] {
+        let said = missing(&stream, wrong.as_bytes()).expect("a failure");
+        assert_eq!(
+            said,
+            format!("request 1: last region can't answer `{wrong}`")
+        );
+    }
 }
 
 fn stream_of(kind: u8, body: &[u8]) -> Vec<u8> {

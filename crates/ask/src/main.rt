@@ -37,6 +37,8 @@ fn answer(buf: &mut [u8], kind: u8, body: &[u8], words: &mut [u32], bytes: &mut 
         9 => ask_parts::record(buf, body),
         10 => ask_parts::regions(buf, body),
         11 => ask_parts::name(buf, body),
+        12 => ask_parts::last(buf, body),
+        13 => ask_points::points(buf, body),
         _ => ask_files::write_edition(buf, body, bytes),
     }
 }

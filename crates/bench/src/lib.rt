@@ -14,8 +14,10 @@ use paper::HORIZON;
 use paper::Line;
 use paper::MOST_TASKS;
 use paper::Outcome;
+use paper::PointVerdict;
 use paper::Response;
 use paper::RowAnswer;
+use paper::Shown;
 use paper::Time;
 use paper::WriteAnswer;
 
@@ -117,6 +119,36 @@ pub extern "C" fn bench_fit(table: &[u8], own: &[u32]) -> u64 {
     }
 }
 
+fn passing(task: PointVerdict) -> u64
+    ensures { λ x. ⌜ x ≤ 1 ⌝ }
+{
+    let verdict = task.verdict;
+    match verdict {
+        Shown::Passes => 1,
+        Shown::NotShown => 0,
+    }
+}
+
+fn all_passing(tasks: [PointVerdict; MOST_TASKS]) -> u64 {
+    let mut count: u64 = 0;
+    let mut k: usize = 0;
+    while k < MOST_TASKS {
+        count = count + passing(tasks[k]);
+        k += 1;
+    }
+    count
+}
+
+// How many tasks pass the test of fixed preemption points; none where the call is turned away.
+#[no_mangle]
+pub extern "C" fn bench_points(table: &[u8], own: &[u32]) -> u64 {
+    let t = request::table_at(table, 0);
+    let catalogue: [u32; 0] = [];
+    let answer = points::point_check(t, own, &catalogue);
+    let tasks = answer.tasks;
+    all_passing(tasks)
+}
+
 fn number_of_row(answer: RowAnswer) -> u64 {
     match answer {
         RowAnswer::Refused(r) => numbers::number_of(r),
@@ -149,6 +181,14 @@ pub extern "C" fn bench_regions(table: &[u8], own: &[u32], record: usize) -> usi
     let t = request::table_at(table, 0);
     let catalogue: [u32; 0] = [];
     let part = parts::regions_words(t, own, &catalogue, record);
+    part.len()
+}
+
+#[no_mangle]
+pub extern "C" fn bench_last(table: &[u8], own: &[u32], record: usize) -> usize {
+    let t = request::table_at(table, 0);
+    let catalogue: [u32; 0] = [];
+    let part = last_part::last_word(t, own, &catalogue, record);
     part.len()
 }
 

@@ -12,6 +12,8 @@ pub enum Cell {
     Beyond,
     Yes,
     No,
+    Passes,
+    NotShown,
 }
 
 // How many digits a number has: at most twenty, which the count of `io` does not say by itself.
@@ -35,6 +37,8 @@ pub fn width_of(cell: Cell) -> usize {
         Cell::Beyond => 6,
         Cell::Yes => 3,
         Cell::No => 2,
+        Cell::Passes => 6,
+        Cell::NotShown => 9,
     }
 }
 
@@ -96,6 +100,8 @@ pub fn put_cell(buf: &mut [u8], at: usize, cell: Cell, width: usize) -> usize
         Cell::Beyond => say::word(buf, start, b"beyond"),
         Cell::Yes => say::word(buf, start, b"yes"),
         Cell::No => say::word(buf, start, b"no"),
+        Cell::Passes => say::word(buf, start, b"passes"),
+        Cell::NotShown => say::word(buf, start, b"not shown"),
     }
 }
 

@@ -10,7 +10,9 @@ use Rattle.paper.specs.Analysis.{within}
 use Rattle.paper.specs.declared.Source.{Source}
 use Rattle.paper.specs.declared.Source.the-variants.{Own, Catalogue}
 use Rattle.paper.specs.declared.Record.{Record}
-use Rattle.show_facts.specs.Facts.{jobOf, timeAt}
+use Rattle.paper.specs.declared.Shown.{Shown}
+use Rattle.paper.specs.declared.Shown.the-variants.{NotShown, Passes}
+use Rattle.show_facts.specs.Facts.{jobOf, timeAt, shownAt}
 use Rattle.show_facts.specs.declared.Facts.{Facts}
 
 -- A table that is read has no more jobs than a table holds
@@ -31,6 +33,17 @@ firstLate f = lowest (jobs f) (λ k. not (keepsAt f k))
 
 abbrev pub firstUnfit : Facts → ℕ
 firstUnfit f = lowest (jobs f) (λ k. not (getD (f .fits) k false))
+
+-- a job passes the test of fixed preemption points; the number of the first job that is not shown to, or 0
+abbrev pub isShown : Shown → Bool
+isShown Passes = true
+isShown NotShown = false
+
+abbrev pub passesAt : Facts → ℕ → Bool
+passesAt f k = isShown (shownAt (f .points) k)
+
+abbrev pub firstNotShown : Facts → ℕ
+firstNotShown f = lowest (jobs f) (λ k. not (passesAt f k))
 
 -- Of a file that reading turns away with 11: the number of the first job that takes its regions from a catalogue of that size and finds it
 -- ending before them, or 0

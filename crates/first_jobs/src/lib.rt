@@ -1,5 +1,6 @@
 // How many jobs a table has, and the first of them of which something doesn't hold: it is late, has a region above its length,
-// has a jitter, or finds the catalogue ending before its regions. specs/Firsts.antt says which job that is.
+// is not shown by the test of fixed preemption points, has a jitter, or finds the catalogue ending before its regions.
+// specs/Firsts.antt says which job that is.
 ghost use Prim.Native.Nat.{_+_, _<_, _≤_, min};
 ghost use mathlib.Core.Path.{_≡_};
 ghost use mathlib.Core.Bool.{not};
@@ -7,10 +8,11 @@ ghost use lib.Dec.{leb, eqb};
 ghost use Rattle.paper.specs.Vocabulary.{lowest};
 ghost use Rattle.paper.specs.Numbers.{mostTasks, rec};
 ghost use Rattle.paper.specs.Analysis.{within};
-ghost use Rattle.first_jobs.specs.Firsts.{keepsAt, inSource, firstOutside};
+ghost use Rattle.first_jobs.specs.Firsts.{keepsAt, isShown, inSource, firstOutside};
 ghost use Rattle.first_jobs.specs.Asked.{holdsAt};
 use paper::MOST_TASKS;
 use paper::Record;
+use paper::Shown;
 use paper::Source;
 use paper::Table;
 use paper::Time;
@@ -25,11 +27,13 @@ pub fn jobs_of(t: Table) -> usize
     if n < MOST_TASKS { n } else { MOST_TASKS }
 }
 
-// What is asked of a job: that it keeps its deadline, that none of its regions is above its length, that its jitter is 0.
+// What is asked of a job: that it keeps its deadline, that none of its regions is above its length, that its jitter is 0, that it
+// passes the test of fixed preemption points.
 pub enum Asked {
     Deadline,
     Regions,
     Jitter,
+    Points,
 }
 
 fn keeps(time: Time, deadline: u64) -> bool
@@ -47,6 +51,15 @@ fn keeps_at(f: Facts, k: usize) -> bool
 {
     let r = show_facts::record_of(f.table, k);
     keeps(show_facts::time_at(f.times, k), r.deadline as u64)
+}
+
+fn is_shown(shown: Shown) -> bool
+    ensures { λ b. ⌜ b ≡ isShown shown ⌝ }
+{
+    match shown {
+        Shown::Passes => true,
+        Shown::NotShown => false,
+    }
 }
 
 fn still_at(t: Table, k: usize) -> bool
@@ -68,6 +81,7 @@ fn holds_at(f: Facts, asked: Asked, k: usize) -> bool
             show_facts::fit_at(fits, k)
         }
         Asked::Jitter => still_at(f.table, k),
+        Asked::Points => is_shown(show_facts::shown_at(f.points, k)),
     }
 }
 

@@ -6,12 +6,14 @@ use mathlib.Core.Logic.{⊎-elim}
 use native.Mathlib.Decide.{decLe, decLt}
 use native.Mathlib.Omega.{arith}
 use native.Mathlib.Nat.{le-refl, le-trans, eq-or-lt-of-le}
-use lib.Dec.{eqb}
-use borrow.Author.Tests.{eq-eqb, ne-eqb}
+use lib.Dec.{leb, eqb}
+use borrow.Author.Tests.{eq-eqb, ne-eqb, eqb-true, leb-true, le-leb}
+use Rattle.paper.specs.Vocabulary.{some}
 use Rattle.paper.specs.Numbers.{horizon}
-use Rattle.paper.specs.Analysis.{least}
+use Rattle.paper.specs.Analysis.{least, within}
 use Rattle.paper.specs.declared.Time.{Time}
 use Rattle.paper.specs.declared.Time.the-variants.{At, Beyond}
+use Rattle.paper.proofs.Tests.{some-says, some-there}
 use Rattle.paper.proofs.Searched.{searched}
 
 -- the search
@@ -175,3 +177,26 @@ least-under f from n s m r e x lo h = go (decLt x (from + n))
 pub under-larger : (f g : ℕ → ℕ) (from n s : ℕ) → Mono f → Mono g → from ≤ f from → ((x : ℕ) → f x ≤ g x) → least (fixed f) from n ≡ At s → Under g from (g s)
 under-larger f g from n s mf mg r h e y l q =
     omega (arith, mg s y (least-under f from n s mf r e y l (omega (arith, h y))))
+
+-- Some t from 1 to n has f t ≤ t exactly where the least fixed point from 1 on is at most n: the one is searched for, the other climbed to.
+pub some-least : (f : ℕ → ℕ) (n : ℕ) → Mono f → 1 ≤ f 1 → n ≤ horizon → some n (λ t. leb (f t) t) ≡ within (least (fixed f) 1 horizon) n
+unfolding within
+some-least f n m r near = go (some n (λ t. leb (f t) t)) refl
+  where
+    missed : (z : Time) → least (fixed f) 1 horizon ≡ z → some n (λ t. leb (f t) t) ≡ false → false ≡ within z n
+    missed (At s) e none = ends (leb s n) refl
+      where
+        ends : (b : Bool) → leb s n ≡ b → false ≡ b
+        ends true h =
+            let w = searched (fixed f) 1 horizon s e in
+            let at : s ≡ f s = eqb-true s (f s) (w .hit) in
+            sym none ∙ some-there n (λ t. leb (f t) t) s (w .low) (leb-true s n h) (le-leb (f s) s (omega arith))
+        ends false h = refl
+    missed Beyond e none = refl
+
+    go : (b : Bool) → some n (λ t. leb (f t) t) ≡ b → b ≡ within (least (fixed f) 1 horizon) n
+    go true e =
+        let t = some-says n (λ t. leb (f t) t) e in
+        let w = found f 1 horizon (t .0) m r (t .1) (omega (arith, t .2)) (leb-true (f (t .0)) (t .0) (t .3)) in
+        rw (w .is) (sym (le-leb (w .z) n (omega (arith, w .high, t .2))))
+    go false e = missed (least (fixed f) 1 horizon) refl e

@@ -8,4 +8,5 @@ pub mod Rising
 pub mod Signed
 pub mod Order
 pub mod Steps
+pub mod Tolerated
 pub mod Fronts

@@ -75,6 +75,14 @@ unfolding maxTo
 max-bound zero most f h = zero-le
 max-bound (suc n) most f h = omega (arith, max-bound n most f (λ j l. h j (omega arith)), h n (omega arith))
 
+-- each of them is at most the largest
+pub max-part : (n : ℕ) (f : ℕ → ℕ) (i : ℕ) → i < n → f i ≤ maxTo n f
+unfolding maxTo
+max-part zero f i l = absurd (omega arith)
+max-part (suc n) f i l =
+    let h : i ≤ n = omega arith in
+    ⊎-elim (λ e. rw e (omega arith)) (λ m. omega (arith, max-part n f i m)) (eq-or-lt-of-le h)
+
 -- a part that counts or not
 pub part-le : (t : Bool) {a b : ℕ} → a ≤ b → cond t a 0 ≤ cond t b 0
 part-le true h = h

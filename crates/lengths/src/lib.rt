@@ -174,8 +174,9 @@ pub fn lengths(t: Table) -> TicksAnswer
     }
 }
 
-// All that the region check asks before the tolerances, in the paper's order. The checks behind the first look at n records and m words.
-fn early_outcome(t: Table, own: &[u32], catalogue: &[u32]) -> Outcome
+// All that the region check asks before the tolerances, in the paper's order; the test of fixed preemption points asks it too. The
+// checks behind the first look at n records and m words.
+pub fn early_outcome(t: Table, own: &[u32], catalogue: &[u32]) -> Outcome
     ensures { λ x. ⌜ x ≡ firstOf (earlyAsks t (now (own .entry)) (now (catalogue .entry))) ⌝ }
 {
     let n = t.n;

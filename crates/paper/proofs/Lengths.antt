@@ -54,17 +54,17 @@ pub record Tolerable (y : Tasks) (a : Assignment) (k : ℕ) : Type 0 where
   pub instant : noInstant y k ≡ false
   pub least : pos 0 ≤ℤ tolerance y a k
 
-abbrev falls : Tasks → Assignment → ℕ → Bool
+abbrev pub falls : Tasks → Assignment → ℕ → Bool
 falls y a k = noInstant y k || ltZ (tolerance y a k) (pos 0)
 
-falls-not : (y : Tasks) (a : Assignment) (k : ℕ) → (falls y a k ≡ false) ↔ Tolerable y a k
+pub falls-not : (y : Tasks) (a : Assignment) (k : ℕ) → (falls y a k ≡ false) ↔ Tolerable y a k
 falls-not y a k = (λ e. says (noInstant y k) refl e, λ v. rw (v .instant) (ltZ-fails (v .least)))
   where
     says : (b : Bool) → noInstant y k ≡ b → (b || ltZ (tolerance y a k) (pos 0)) ≡ false → Tolerable y a k
     says true n e = absurd (true≢false e)
     says false n e = record { instant = n; least = ltZ-denies e }
 
--- Refusal 16 names, for lengths and the region check, the lowest record with no t or with a tolerance below zero,
+-- Refusal 16 names, for lengths, the region check and the test of fixed preemption points, the lowest record with no t or with a tolerance below zero,
 pub lowest-named : (y : Tasks) (a : Assignment) (k : ℕ) → lowestBelowZero y a ≡ suc k
     → (k < y .n) × ((noInstant y k ≡ true) ⊎ (tolerance y a k <ℤ pos 0)) × ((j : ℕ) → j < k → Tolerable y a j)
 unfolding lowestBelowZero

@@ -7,6 +7,7 @@ pub mod Asked
 pub mod Responses
 pub mod Earlier
 pub mod Lengths
+pub mod Points
 pub mod Reading
 pub mod Rows
 pub mod Formed

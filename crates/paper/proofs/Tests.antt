@@ -1,13 +1,14 @@
 -- What a test says where it is true or false: its two halves, its two bounds, each k that it looks at.
 use mathlib.Core.Path.{_≡_, refl, sym, _∙_}
-use mathlib.Core.Bool.{Bool, true, false, _&&_, _||_, and-eq-true-iff, true≢false}
-use mathlib.Core.Logic.{by-cases}
+use mathlib.Core.Bool.{Bool, true, false, _&&_, _||_, and-eq-true-iff, or-true, or-false, true≢false}
+use mathlib.Core.Logic.{by-cases, ⊎-elim}
 use Prim.Native.Nat.{ℕ, zero, suc, _≤_, _<_}
 use native.Mathlib.Omega.{arith}
 use native.Mathlib.Decide.{decLt}
+use native.Mathlib.Nat.{eq-or-lt-of-le}
 use borrow.Author.Tests.{leb-true}
 use lib.Dec.{leb}
-use Rattle.paper.specs.Vocabulary.{every}
+use Rattle.paper.specs.Vocabulary.{every, some}
 
 -- a test that is both true and false proves anything
 pub never : (b : Bool) → b ≡ true → b ≡ false → ⊥
@@ -55,3 +56,25 @@ every-fails n test k h e = go (every n test) refl
     go : (b : Bool) → every n test ≡ b → every n test ≡ false
     go true q = absurd (never (test k) (every-says n test q k h) e)
     go false q = q
+
+-- `some n test` is true: there is a t from 1 to n that passes, and back
+pub some-says : (n : ℕ) (test : ℕ → Bool) → some n test ≡ true → (t : ℕ) × (1 ≤ t) × (t ≤ n) × (test t ≡ true)
+unfolding some
+some-says zero test e = absurd (true≢false (sym e))
+some-says (suc n) test e = last (test (suc n)) refl e (some-says n test)
+  where
+    last : (b : Bool) → test (suc n) ≡ b → (some n test || b) ≡ true
+        → (some n test ≡ true → (t : ℕ) × (1 ≤ t) × (t ≤ n) × (test t ≡ true)) → (t : ℕ) × (1 ≤ t) × (t ≤ suc n) × (test t ≡ true)
+    last true h _ _ = (suc n, omega arith, omega arith, h)
+    last false _ q before =
+        let r = before (sym (or-false (some n test)) ∙ q) in
+        (r .0, r .1, omega (arith, r .2), r .3)
+
+pub some-there : (n : ℕ) (test : ℕ → Bool) (t : ℕ) → 1 ≤ t → t ≤ n → test t ≡ true → some n test ≡ true
+unfolding some
+some-there zero test t low high e = absurd (omega arith)
+some-there (suc n) test t low high e =
+    ⊎-elim
+    (λ q. let h : test (suc n) ≡ true = rw (← q) e in rw h (or-true (some n test)))
+    (λ (l : t < suc n). rw (some-there n test t low (omega arith) e))
+    (eq-or-lt-of-le high)

@@ -1,16 +1,17 @@
--- What each of the eleven calls answers, and what every lent memory holds afterwards.
+-- What each of the thirteen calls answers, and what every lent memory holds afterwards.
 -- A refusal returns its number (and record, for 16) and no lent byte or word has changed. On success only the bytes or words of the answer are written; the rest stay.
 use Prim.Native.Nat.{ℕ, _+_, _-_}
 use mathlib.Core.Path.{_≡_}
-use mathlib.Core.Bool.{Bool, cond}
+use mathlib.Core.Bool.{Bool, false, cond}
 use mathlib.Core.List.{List, [], _++_}
 use lib.IntN.{ℤ, pos}
 use lib.ListN.{length, take, drop, replicate}
 use Rattle.paper.specs.Numbers.{mostTasks, perTask, zeroRecord, rec, assigned}
 use Rattle.paper.specs.File.{editionIn, wordsIn, fileLength, ownWords, tableIn, fileOf}
-use Rattle.paper.specs.Regions.{Part, partOf, noPart, listOf, recordPart, regionsPart, nameList, namePart}
+use Rattle.paper.specs.Regions.{Part, partOf, noPart, listOf, recordPart, regionsPart, lastPart, nameList, namePart}
 use Rattle.paper.specs.Analysis.{Tasks, tasksOf, standing, withJob}
 use Rattle.paper.specs.Lengths.{tolerance, lengthOf, allFit}
+use Rattle.paper.specs.Points.{chunksOf, pointsPass}
 use Rattle.paper.specs.Rows.{rowSize, Next, Ended}
 use Rattle.paper.specs.Refusals.{firstOf, readAsks, recordAsks, writeAsks, timesAsks, tolerancesAsks, lengthsAsks, fitAsks, firstAsks, nextAsks, regionsAsks, nameAsks}
 use Rattle.paper.specs.declared.Source.{Source}
@@ -27,6 +28,9 @@ use Rattle.paper.specs.declared.TimesAnswer.{TimesAnswer}
 use Rattle.paper.specs.declared.TicksAnswer.{TicksAnswer}
 use Rattle.paper.specs.declared.FitAnswer.{FitAnswer}
 use Rattle.paper.specs.declared.FitAnswer.the-variants as Fit
+use Rattle.paper.specs.declared.Shown.the-variants.{NotShown, Passes}
+use Rattle.paper.specs.declared.PointVerdict.{PointVerdict}
+use Rattle.paper.specs.declared.PointsAnswer.{PointsAnswer}
 use Rattle.paper.specs.declared.RowAnswer.{RowAnswer}
 use Rattle.paper.specs.declared.RowAnswer.the-variants as Row
 
@@ -116,6 +120,21 @@ fitAnswer t own catalogue =
     fitFor (firstOf (fitAsks t own catalogue))
     (allFit (t .records) (tasksOf (t .records) (t .n)) (assigned (t .records)) own catalogue)
 
+-- Fixed preemption points: for each task, whether it passes; the test is sufficient only, so a "no" is "not shown"; past n, and on a refusal, nothing is shown either. The refusals are the region check's
+abbrev pub verdictFor : Bool → PointVerdict
+verdictFor passes = record { verdict = cond passes Passes NotShown }
+
+abbrev pub pointsFor : Outcome → ℕ → (ℕ → Bool) → PointsAnswer
+pointsFor o n f = record {
+  outcome = o;
+  tasks = whenDone o (perTask n (λ k. verdictFor (f k)) (verdictFor false)) (replicate mostTasks (verdictFor false));
+}
+
+abbrev pub pointsAnswer : Table → List ℕ → List ℕ → PointsAnswer
+pointsAnswer t own catalogue =
+    pointsFor (firstOf (fitAsks t own catalogue)) (t .n)
+    (pointsPass (tasksOf (t .records) (t .n)) (assigned (t .records)) (chunksOf (t .records) own catalogue))
+
 -- The listing: out and out' are what the buffer holds before and after. A row found is its first 2n numbers; the end and a refusal write nothing.
 unfoldable pub Lists : Tasks → List ℕ → List ℕ → List ℕ → RowAnswer → Type 0
 Lists y given out out' Row.Row = Next y given (take (rowSize (y .n)) out') × (drop (rowSize (y .n)) out' ≡ drop (rowSize (y .n)) out)
@@ -161,6 +180,14 @@ regionsPlace t own catalogue number = partFor (regionsOutcome t own catalogue nu
 abbrev pub regionsWords : Table → List ℕ → List ℕ → ℕ → List ℕ
 regionsWords t own catalogue number =
     partOf (regionsPlace t own catalogue number) (listOf (regionsSource t own catalogue number) own catalogue)
+
+-- the last region: one word of the list that the record names; it asks what the regions ask, 5, 13, then 11 for that record alone, and is empty at the start of the own words on a refusal
+abbrev pub lastPlace : Table → List ℕ → List ℕ → ℕ → Part
+lastPlace t own catalogue number = partFor (regionsOutcome t own catalogue number) (lastPart (rec (t .records) (number - 1)))
+
+abbrev pub lastWords : Table → List ℕ → List ℕ → ℕ → List ℕ
+lastWords t own catalogue number =
+    partOf (lastPlace t own catalogue number) (listOf (regionsSource t own catalogue number) own catalogue)
 
 -- the name: of the cabinet's list or of the house list, by its number alone
 abbrev pub nameOutcome : ℕ → List ℕ → List ℕ → Outcome

@@ -1,5 +1,5 @@
 -- Document 01, "Bench figures": those marked P, as document 02, item 5, changes them, as one table of what is asked and what comes out.
--- The papers' figures would let some wrong rules of items 4, 5 and 8 pass. Those marked "ours" stand beside them for that, worked out by hand.
+-- The papers' figures would let some wrong rules of items 4, 5 and 8 pass, and have none of item 2. Those marked "ours" stand beside them for that, worked out by hand.
 use Prim.Native.Nat.{ℕ, zero, suc, _+_, _-_}
 use mathlib.Core.Bool.{Bool, true, false, _&&_, cond}
 use mathlib.Core.List.{List, [], _∷_, _++_, map}
@@ -10,14 +10,16 @@ use Rattle.paper.specs.Numbers.{mostTasks, zeroRecord, assigned}
 use Rattle.paper.specs.Analysis.{tasksOf, standing, job, passes}
 use Rattle.paper.specs.Rows.{rowSize, rowAssignment, rowHolds}
 use Rattle.paper.specs.Refusals.{numberOf, recordOf}
-use Rattle.paper.specs.Answers.{timesAnswer, tolerancesAnswer, lengthsAnswer, fitAnswer, noTime}
-use Rattle.paper.specs.declared.Source.the-variants.{Own}
+use Rattle.paper.specs.Answers.{timesAnswer, tolerancesAnswer, lengthsAnswer, fitAnswer, pointsAnswer, verdictFor, regionsOutcome, lastWords, noTime}
+use Rattle.paper.specs.declared.Source.the-variants.{Own, Catalogue}
 use Rattle.paper.specs.declared.Record.{Record}
 use Rattle.paper.specs.declared.Table.{Table}
 use Rattle.paper.specs.declared.Outcome.{Outcome}
 use Rattle.paper.specs.declared.Outcome.the-variants.{Done, Refused}
 use Rattle.paper.specs.declared.Time.{Time}
 use Rattle.paper.specs.declared.Time.the-variants.{At, Beyond}
+use Rattle.paper.specs.declared.Shown.{Shown}
+use Rattle.paper.specs.declared.Shown.the-variants.{NotShown, Passes}
 use Rattle.paper.specs.declared.FitAnswer.{FitAnswer}
 use Rattle.paper.specs.declared.FitAnswer.the-variants as Fit
 
@@ -30,6 +32,8 @@ pub data Asked : Type 0 where
   toleranceOf : Table → ℕ → Asked
   longest : Table → ℕ → Asked
   fitting : Table → List ℕ → Asked
+  pointsOf : Table → List ℕ → List ℕ → ℕ → Asked
+  lastOf : Table → List ℕ → List ℕ → ℕ → Asked
   firstFinish : Table → ℕ → Asked
 
 -- what comes out; a refusal by its number and, for 16, its record
@@ -38,6 +42,7 @@ pub data Came : Type 0 where
   beyond : Came
   says : Bool → Came
   rows : List (List ℕ) → Came
+  words : List ℕ → Came
   refused : ℕ → ℕ → Came
 
 abbrev pub timeCame : Time → Came
@@ -52,6 +57,10 @@ abbrev pub fitCame : FitAnswer → Came
 fitCame Fit.Fits = says true
 fitCame Fit.Unfit = says false
 fitCame (Fit.Refused r) = refused (numberOf r) (recordOf r)
+
+abbrev pub shownCame : Shown → Came
+shownCame Passes = says true
+shownCame NotShown = says false
 
 unfoldable pub join : List (List (List ℕ)) → List (List ℕ)
 join [] = []
@@ -80,6 +89,9 @@ comesOut (rowsOf t) = rows (passingRows t)
 comesOut (toleranceOf t k) = came (tolerancesAnswer t .outcome) (number (getD (tolerancesAnswer t .ticks) (k - 1) (pos 0)))
 comesOut (longest t k) = came (lengthsAnswer t .outcome) (number (getD (lengthsAnswer t .ticks) (k - 1) (pos 0)))
 comesOut (fitting t own) = fitCame (fitAnswer t own [])
+comesOut (pointsOf t own catalogue k) =
+    came (pointsAnswer t own catalogue .outcome) (shownCame (getD (pointsAnswer t own catalogue .tasks) (k - 1) (verdictFor false) .verdict))
+comesOut (lastOf t own catalogue k) = came (regionsOutcome t own catalogue k) (words (lastWords t own catalogue k))
 comesOut (firstFinish t k) =
     timeCame (job (tasksOf (t .records) (t .n)) (standing (tasksOf (t .records) (t .n)) (assigned (t .records)) (k - 1)) (k - 1) 0)
 
@@ -102,6 +114,22 @@ late j r =
       count = r .count;
       name = r .name;
       jitter = j;
+    }
+
+-- the same with its regions in the catalogue
+abbrev pub listed : Record → Record
+listed r =
+    record {
+      cost = r .cost;
+      period = r .period;
+      deadline = r .deadline;
+      priority = r .priority;
+      threshold = r .threshold;
+      source = Catalogue;
+      first = r .first;
+      count = r .count;
+      name = r .name;
+      jitter = r .jitter;
     }
 
 -- a table of these tasks, the records past them zero
@@ -171,6 +199,24 @@ lateBelow = table (task 1 2 1 1 1 0 1 ∷ late 1 (task 1 3 3 2 2 1 1) ∷ [])
 -- ours: A (1,2,1) with jitter 1, alone
 abbrev pub lateAlone : Table
 lateAlone = table (late 1 (task 1 2 1 1 1 0 1) ∷ [])
+
+-- ours: A (3,10,10) with one region, B (9,40,17) with regions 2+7, C (c,100,100) with one, that order; A has jitter ja, B jitter jb
+abbrev pub points : ℕ → ℕ → ℕ → Table
+points c ja jb = table (late ja (task 3 10 10 1 1 0 1) ∷ late jb (task 9 40 17 2 2 1 2) ∷ task c 100 100 3 3 3 1 ∷ [])
+
+abbrev pub pointWords : ℕ → List ℕ
+pointWords c = 3 ∷ 2 ∷ 7 ∷ c ∷ []
+
+-- ours: C (7,100,100) is record 1 with regions 1+4+2, A (5,20,20) record 2 with one, B (9,40,d) record 3 with regions 1+6+2, in the order A B C, every threshold 1; those of B and C stand in the catalogue, behind a word that nobody names
+abbrev pub mixed : ℕ → Table
+mixed d = table (listed (task 7 100 100 3 1 4 3) ∷ task 5 20 20 1 1 0 1 ∷ listed (task 9 40 d 2 1 1 3) ∷ [])
+
+abbrev pub mixedWords : List ℕ
+mixedWords = 9 ∷ 1 ∷ 6 ∷ 2 ∷ 1 ∷ 4 ∷ 2 ∷ []
+
+-- ours: A (2,5,2) alone, with one region
+abbrev pub noPoint : Table
+noPoint = table (task 2 5 2 1 1 0 1 ∷ [])
 
 pub record Figure : Type 0 where
   pub asked : Asked
@@ -256,4 +302,35 @@ figures =
     -- ours, for B t goes up to 2, by when A, which is in time, has come once: 2 − 1 − 1 = 0
     (toleranceOf lateBelow 2 gives number (pos 0)) ∷
     -- ours, a jitter of the whole deadline leaves no t
-    (toleranceOf lateAlone 1 gives refused 16 1) ∷ []
+    (toleranceOf lateAlone 1 gives refused 16 1) ∷
+    -- ours, fixed preemption points. For A t goes up to 7, and alpha is 7, of B. For B t goes up to 10, and before 10 A has come once: 2 + 3 + 5 = 10, so alpha 5, of C, passes. C is the lowest. By the region check C's region doesn't fit: its length is 3
+    (pointsOf (points 5 0 0) (pointWords 5) [] 1 gives says true) ∷
+    (pointsOf (points 5 0 0) (pointWords 5) [] 2 gives says true) ∷
+    (pointsOf (points 5 0 0) (pointWords 5) [] 3 gives says true) ∷
+    (fitting (points 5 0 0) (pointWords 5) gives says false) ∷
+    (longest (points 5 0 0) 3 gives number (pos 3)) ∷
+    -- ours, the last region of B is its second word
+    (lastOf (points 5 0 0) (pointWords 5) [] 2 gives words (7 ∷ [])) ∷
+    -- ours, a tick more, and B isn't shown: all before its last region is done by 14, from where that would end past the deadline
+    (pointsOf (points 6 0 0) (pointWords 6) [] 2 gives says false) ∷
+    -- ours, alpha is of all lower tasks: with C's region 8 that of A is 8, more than 7; with jitter of A 1 t goes up to 6, and alpha is 7, of B
+    (pointsOf (points 8 0 0) (pointWords 8) [] 1 gives says false) ∷
+    (pointsOf (points 5 1 0) (pointWords 5) [] 1 gives says false) ∷
+    -- ours, jitter of A 2: it comes again at 8. For B 2 + 3 + 3 = 8 passes, and with 4 nothing does
+    (pointsOf (points 3 2 0) (pointWords 3) [] 2 gives says true) ∷
+    (pointsOf (points 4 2 0) (pointWords 4) [] 2 gives says false) ∷
+    -- ours, jitter of B 1: t goes up to 9. 2 + 3 + 4 = 9 passes, and with 5 nothing does
+    (pointsOf (points 4 0 1) (pointWords 4) [] 2 gives says true) ∷
+    (pointsOf (points 5 0 1) (pointWords 5) [] 2 gives says false) ∷
+    -- ours, for B alpha is 4, the second region of C, and t goes up to d − 2: 7 + 5 + 4 = 16 passes where d is 18, and not where it is 17
+    (pointsOf (mixed 18) (5 ∷ []) mixedWords 3 gives says true) ∷
+    (pointsOf (mixed 17) (5 ∷ []) mixedWords 3 gives says false) ∷
+    (lastOf (mixed 17) (5 ∷ []) mixedWords 3 gives words (2 ∷ [])) ∷
+    -- ours, a task that is alone passes with no t at all
+    (pointsOf noPoint (2 ∷ []) [] 1 gives says true) ∷
+    -- ours, the region check's refusals, and the regions': of B's region, too short for its cost, the last region of A doesn't ask
+    (pointsOf (ab 1 2 1) (2 ∷ 4 ∷ []) [] 1 gives refused 16 1) ∷
+    (pointsOf (ab 1 2 1) (2 ∷ 3 ∷ []) [] 1 gives refused 11 0) ∷
+    (lastOf (ab 1 2 1) (2 ∷ 3 ∷ []) [] 1 gives words (2 ∷ [])) ∷
+    (lastOf (ab 1 2 1) (2 ∷ 3 ∷ []) [] 2 gives refused 11 0) ∷
+    (lastOf (ab 1 2 1) (2 ∷ 3 ∷ []) [] 3 gives refused 13 0) ∷ []

@@ -6,6 +6,7 @@ pub mod File
 pub mod Regions
 pub mod Analysis
 pub mod Lengths
+pub mod Points
 pub mod Rows
 pub mod Refusals
 pub mod Answers

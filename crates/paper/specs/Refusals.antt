@@ -1,4 +1,4 @@
--- Document 01, "Numbers a turned-away call returns", with what document 02 adds to it, 18 (item 1), 19 and more of 9 and 16 (item 8), 2 and 6 of both editions (item 9): for each call the numbers it asks, in the order asked.
+-- Document 01, "Numbers a turned-away call returns", with what document 02 adds to it, 18 (item 1), 19 and more of 9 and 16 (item 8), 2 and 6 of both editions (item 9): for each call the numbers it asks, in the order asked. The two calls of item 2 ask what others ask.
 use Prim.Native.Nat.{ℕ, _+_, _-_}
 use mathlib.Core.Bool.{Bool, not, _&&_, _||_, cond}
 use mathlib.Core.List.{List, [], _∷_, _++_}
@@ -65,7 +65,7 @@ abbrev pub Asks : Type 0
 Asks = List (Refusal × Bool)
 
 -- Each list stands in the order asked, and its first ask that applies is the refusal. Where the order rises that is the rule of document 01: the lowest applicable number wins.
--- It rises but for the regions of a record (5, 13, 11), and but for two exceptions of document 02: 18 (item 1), asked straight after 2 when reading, straight after 5 when writing,
+-- It rises but for the regions of a record and the last of them (5, 13, 11), and but for two exceptions of document 02: 18 (item 1), asked straight after 2 when reading, straight after 5 when writing,
 -- and 19 (item 8), asked between 11 and 12 when writing.
 abbrev pub firstOf : Asks → Outcome
 firstOf [] = Done
@@ -174,7 +174,7 @@ tolerancesAsks t = timesAsks t ++ (deadlineAbovePeriod t ∷ toleranceOverNone t
 abbrev pub lengthsAsks : Table → Asks
 lengthsAsks t = timesAsks t ++ (deadlineAbovePeriod t ∷ toleranceBelowZero t ∷ [])
 
--- the region check 11 too
+-- the region check 11 too, and the test of fixed preemption points what it asks
 abbrev pub fitAsks : Table → List ℕ → List ℕ → Asks
 fitAsks t own catalogue =
     wrongCounts (t .n) (length own) ∷
@@ -192,7 +192,7 @@ firstAsks t room = wrongTasks t ∷ outOfRange (t .records) (t .n) ∷ noRoom ro
 abbrev pub nextAsks : Table → List ℕ → ℕ → Asks
 nextAsks t given room = firstAsks t room ++ ((BadRow, not (rowHolds (t .n) given)) ∷ [])
 
--- regions ask 5, 13, then 11 for that record alone
+-- regions, and the last of them, ask 5, 13, then 11 for that record alone
 abbrev pub regionsAsks : Table → List ℕ → List ℕ → ℕ → Asks
 regionsAsks t own catalogue number =
     wrongCounts (t .n) (length own) ∷

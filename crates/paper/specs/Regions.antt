@@ -1,4 +1,4 @@
--- Document 01, "A task's regions" (in "The file, bit by bit") and "Parts handed back".
+-- Document 01, "A task's regions" (in "The file, bit by bit") and "Parts handed back"; by document 02 the last region (item 2) and records of edition 2 (item 9).
 use Prim.Native.Nat.{ℕ, zero, suc, _+_, _-_, _*_}
 use mathlib.Core.Bool.{Bool, _&&_, cond}
 use mathlib.Core.List.{List}
@@ -57,6 +57,10 @@ recordPart e k = record { from = 8 + recordSize e * (k - 1); count = recordSize 
 -- A task's regions come back as a part of the file's region words or of the catalogue, whichever the record names
 abbrev pub regionsPart : Record → Part
 regionsPart r = record { from = r .first; count = r .count }
+
+-- The last region comes back as a one-word part of the list it came from (document 02, item 2). A task has a region at least, or 11 turns the call away
+abbrev pub lastPart : Record → Part
+lastPart r = record { from = r .first + r .count - 1; count = 1 }
 
 -- Names are 16-byte entries: numbers below 64 stand in the cabinet's name list, the others (less 64) in the house list
 abbrev pub nameWidth : ℕ

@@ -1,6 +1,6 @@
 -- The few words that the other pages are written in. Nothing here is about cabinets.
 use Prim.Native.Nat.{ℕ, zero, suc, _+_, _-_, _/_, max}
-use mathlib.Core.Bool.{Bool, true, _&&_, cond}
+use mathlib.Core.Bool.{Bool, true, false, _&&_, _||_, cond}
 use mathlib.Core.List.{List, [], _∷_, _++_}
 
 -- f 0, f 1, .., f (n - 1), as a list
@@ -13,6 +13,11 @@ module _ {A : Type 0} where
 unfoldable pub every : ℕ → (ℕ → Bool) → Bool
 every zero test = true
 every (suc n) test = every n test && test n
+
+-- some t from 1 to n passes the test
+unfoldable pub some : ℕ → (ℕ → Bool) → Bool
+some zero test = false
+some (suc n) test = some n test || test (suc n)
 
 -- one more than the least k below n that passes the test; 0 where none does
 unfoldable pub lowest : ℕ → (ℕ → Bool) → ℕ

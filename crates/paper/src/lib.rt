@@ -67,7 +67,8 @@ pub enum Refusal {
     Unassigned,
     DeadlineAbovePeriod,
     // Holds the number of the lowest record that is turned away: by the call of tolerances one whose jitter leaves no t to take a
-    // tolerance over; by lengths and the region check that, or one whose tolerance is below zero.
+    // tolerance over; by lengths, the region check and the test of fixed preemption points that, or one whose tolerance is below
+    // zero.
     ToleranceBelowZero(usize),
     BadRow,
     BlankPlate,
@@ -127,6 +128,25 @@ pub enum FitAnswer {
     Refused(Refusal),
 }
 
+// The test of fixed preemption points for one task (document 02, item 2): for firmware that yields at region ends alone and knows
+// no thresholds. Where every task passes, source document 000's Theorem 3 calls the set schedulable; it has no jitter, which item 8
+// adds. The test is sufficient only: a task that is not shown may be in time all the same.
+pub enum Shown {
+    NotShown,
+    Passes,
+}
+
+// An array of structs, as one of enums is not covered.
+pub struct PointVerdict {
+    pub verdict: Shown,
+}
+
+// The test for records 1 to n. The others, and all on a refusal, are not shown, which means nothing there.
+pub struct PointsAnswer {
+    pub outcome: Outcome,
+    pub tasks: [PointVerdict; MOST_TASKS],
+}
+
 // The listing: the row is in the lent buffer, or no row follows, or a refusal.
 pub enum RowAnswer {
     Row,
@@ -140,7 +160,7 @@ pub struct BytesPart<'a> {
     pub bytes: &'a [u8],
 }
 
-// A part of lent region words with its outcome. On a refusal the part is empty.
+// A part of lent region words (a task's regions, or the last of them) with its outcome. On a refusal the part is empty.
 pub struct WordsPart<'a> {
     pub outcome: Outcome,
     pub words: &'a [u32],

@@ -11,7 +11,7 @@ abbrev pub Same : RefT (List ℕ) → RefT (List ℕ) → Type 0
 Same r t = (now r ≡ now t) × (r .ptr ≡ t .ptr)
 
 module _ {r t : RefT (List ℕ)} where
-  one-place : {s : RefT (List ℕ)} {size : ℕ} {p : Part} → LiesIn s size p r → LiesIn s size p t → r .ptr ≡ t .ptr
+  pub one-place : {s : RefT (List ℕ)} {size : ℕ} {p : Part} → LiesIn s size p r → LiesIn s size p t → r .ptr ≡ t .ptr
   one-place x y i = ((x .block ∙ sym (y .block)) i, (x .offset ∙ sym (y .offset)) i)
 
   pub one-name : {number : ℕ} {cabinet house : RefT (List ℕ)} → IsName number cabinet house r → IsName number cabinet house t → Same r t

@@ -4,8 +4,7 @@ use mathlib.Core.Bool.{true, _&&_}
 use mathlib.Core.List.{List}
 use Prim.Native.Nat.{ℕ, _+_, _-_, _≤_}
 use native.Mathlib.Omega.{arith}
-use borrow.Author.Tests.{leb-true}
-use lib.Dec.{leb, eqb}
+use lib.Dec.{leb}
 use lib.ListN.{length}
 use denote.Ref.{RefT, now}
 use Rattle.paper.specs.declared.Record.{Record}
@@ -14,10 +13,11 @@ use Rattle.paper.specs.declared.Table.{Table}
 use Rattle.paper.specs.declared.Outcome.{Outcome}
 use Rattle.paper.specs.declared.Outcome.the-variants.{Done, Refused}
 use Rattle.paper.specs.Numbers.{mostTasks, rec, countsInRange}
-use Rattle.paper.specs.Regions.{noPart, listOf, wordsInRange, wordsSum, regionsHold, recordRegionsHold, regionsPart}
+use Rattle.paper.specs.Regions.{noPart, listOf, recordRegionsHold, regionsPart}
 use Rattle.paper.specs.Answers.{regionsOutcome}
-use Rattle.paper.proofs.Tests.{both, within}
+use Rattle.paper.proofs.Tests.{within}
 use Rattle.paper.proofs.Asks.{met}
+use Rattle.paper.proofs.Points.{regions-say}
 use Rattle.checks.proofs.Meaning.{counts-say}
 use Rattle.parts.specs.Parts.{IsPart, sliceOf, AreRegions}
 
@@ -26,16 +26,6 @@ numbered n m number counts named =
     let p = within 1 n number named in
     let most = counts-say n m counts .tasks in
     (p .0, omega arith)
-
-words-inside : (list : List ℕ) (first count c : ℕ) → regionsHold list first count c ≡ true → first + count ≤ length list
-unfolding regionsHold
-words-inside list first count c e =
-    let words = wordsInRange list first count && eqb (wordsSum list first count) c in
-    let inside = leb (first + count) (length list) in
-    let p = both (leb 1 count) (leb first 127 && (leb count 127 && (inside && words))) e in
-    let q = both (leb first 127) (leb count 127 && (inside && words)) (p .1) in
-    let r = both (leb count 127) (inside && words) (q .1) in
-    leb-true _ _ (both inside words (r .1) .0)
 
 -- what is known once none of the three asks applies
 record Facts (t : Table) (own catalogue : List ℕ) (number : ℕ) : Type 0 where
@@ -55,7 +45,7 @@ module _ (t : Table) (own catalogue : List ℕ) (number : ℕ) (e : Done ≡ reg
   in-table = numbered (t .n) (length own) number (facts .counts) (facts .named)
 
   pub in-list : let r = rec (t .records) (number - 1) in r .first + r .count ≤ length (listOf (r .source) own catalogue)
-  in-list = words-inside _ _ _ _ (facts .hold)
+  in-list = regions-say _ _ _ _ (facts .hold) .inside
 
 module _ (t : Table) (own catalogue : RefT (List ℕ)) (number : ℕ) (r : RefT (List ℕ)) where
   abbrev o : Outcome

@@ -166,7 +166,8 @@ pub fn regions_outcome<'a>(t: Table, own: &'a [u32], catalogue: &'a [u32], numbe
     Outcome::Done
 }
 
-fn regions_for<'a>(
+// The part that an outcome gives, for the calls that hand back all of it or a part of it.
+pub fn regions_for<'a>(
     outcome: Outcome,
     t: Table,
     own: &'a [u32],

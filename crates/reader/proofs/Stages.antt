@@ -1,15 +1,14 @@
 -- The stages of reading: what each asks is the paper's list, and together they are all of it and the answer.
 use mathlib.Core.Path.{_≡_, refl, sym, ap, ap₂, _∙_}
-use mathlib.Core.Bool.{Bool, true, false, not, _||_}
+use mathlib.Core.Bool.{not}
 use mathlib.Core.List.{List, [], _∷_, _++_}
 use Prim.Native.Nat.{ℕ, _-_, _≤_}
 use native.Mathlib.Omega.{arith}
-use borrow.Author.Tests.{ltb-false, eqb-true, not-false, eq-eqb, ne-eqb, le-ltb}
-use lib.Dec.{eqb}
+use borrow.Author.Tests.{ltb-false, eqb-true, not-false, le-ltb}
 use lib.ListN.{length, drop}
 use Rattle.paper.specs.Numbers.{mostWords}
 use Rattle.paper.specs.File.{editionIn, tasksIn, wordsIn, fileLength, sealed, spareClear, tableIn, recordsIn, ownWords}
-use Rattle.paper.specs.Refusals.{Asks, firstOf, blank, outOfRange, badAssignment, badRegions, noRoom, fileAsks, readAsks}
+use Rattle.paper.specs.Refusals.{Asks, firstOf, outOfRange, badAssignment, badRegions, noRoom, fileAsks, readAsks}
 use Rattle.paper.specs.Answers.{noTable, tableFor, wordsFor, readAnswer, readOut}
 use Rattle.paper.specs.declared.Record.{Record}
 use Rattle.paper.specs.declared.Table.{Table}
@@ -23,22 +22,8 @@ use Rattle.checks.proofs.Asks.{first-passed, first-refused, first-done}
 use Rattle.checks.proofs.Meaning.{counts-say}
 use Rattle.unpack.specs.Unpack.{Sized}
 use Rattle.unpack.proofs.Words.{words-length}
-use Rattle.reader.specs.Stages.{headAsks, bodyAsks, Unpacked}
-
--- A call gave x, which is y in the paper's words. It is a number, and not the one wanted, or that one; or a test, and found to hold or not.
-pub differs : {x y : ℕ} (wanted : ℕ) → x ≡ y → (x ≡ wanted → ⊥) → not (eqb y wanted) ≡ true
-differs {x} wanted e h = rw (← e, ne-eqb x wanted h)
-
-pub agrees : {x y : ℕ} (wanted : ℕ) → x ≡ y → x ≡ wanted → not (eqb y wanted) ≡ false
-agrees {x} wanted e h = rw (← e, eq-eqb x wanted h)
-
-pub found : {x y b : Bool} → x ≡ y → not x ≡ b → not y ≡ b
-found e h = rw (← e) h
-
--- Two numbers of the file were found blank or not, and so was the plate.
-pub either-blank : {x y cabinet line : ℕ} {a b plate : Bool} → x ≡ cabinet → y ≡ line → a ≡ blank x y → b ≡ plate
-    → (blank cabinet line || plate) ≡ (a || b)
-either-blank c l e f = rw (e, f, c, l)
+use Rattle.file_head.specs.Asks.{headAsks}
+use Rattle.reader.specs.Stages.{bodyAsks, Unpacked}
 
 -- Asks 7 to 12, of what was unpacked.
 abbrev pub unpackedAsks : List ℕ → ℕ → ℕ → ℕ → List Record → List ℕ → List ℕ → ℕ → Asks

@@ -1,16 +1,12 @@
--- Reading in two stages: the head is asked first, and only a file of the right size is unpacked and asked on.
+-- The second stage of reading: the head has passed (file_head), so that the file has its right size, and is unpacked and asked on.
 use Prim.Native.Nat.{ℕ}
 use mathlib.Core.Path.{_≡_}
-use mathlib.Core.List.{List, []}
-use lib.ListN.{take, drop}
+use mathlib.Core.List.{List}
+use lib.ListN.{drop}
 use Rattle.paper.specs.File.{editionIn, tasksIn, wordsIn, recordsIn, regionWords}
-use Rattle.paper.specs.Refusals.{Asks, fileAsks, readAsks}
+use Rattle.paper.specs.Refusals.{Asks, readAsks}
 use Rattle.paper.specs.declared.Record.{Record}
 use Rattle.unpack.specs.Unpack.{Sized}
-
--- asks 1, 2, 18, 3 to 6, in which no catalogue plays a part
-abbrev pub headAsks : List ℕ → ℕ → ℕ → Asks
-headAsks f cabinet line = take 7 (fileAsks f cabinet line [])
 
 -- asks 7 to 12, in which the plate plays no part
 abbrev pub bodyAsks : List ℕ → List ℕ → ℕ → Asks

@@ -8,50 +8,13 @@ ghost use Rattle.paper.specs.Refusals.{firstOf, fileAsks};
 ghost use Rattle.paper.specs.Answers.{noTable, tableFor, wordsFor, readAnswer, readOut};
 ghost use Rattle.paper.specs.declared.Outcome.the-variants.{Refused};
 ghost use Rattle.unpack.specs.Unpack.{Sized};
-ghost use Rattle.reader.specs.Stages.{headAsks, bodyAsks, Unpacked};
+ghost use Rattle.reader.specs.Stages.{bodyAsks, Unpacked};
 use paper::Cabinet;
 use paper::Line;
 use paper::Outcome;
 use paper::ReadAnswer;
 use paper::Record;
 use paper::Refusal;
-
-// Asks 1, 2, 18, 3 to 6.
-fn head(file: &[u8], cabinet: Cabinet, line: Line) -> Outcome
-    ensures { λ x. ⌜ x ≡ firstOf (headAsks (now (file .entry)) (cabinet .0) (line .0)) ⌝ }
-{
-    if file.len() < layout::SHORTEST {
-        return Outcome::Refused(Refusal::Short);
-    }
-    let edition = layout::edition_of(file);
-    if !layout::is_edition(edition) {
-        return Outcome::Refused(Refusal::WrongEdition);
-    }
-    let its_cabinet = layout::cabinet_of(file);
-    let its_line = layout::line_of(file);
-    let plate_cabinet = cabinet.0 as u64;
-    let plate_line = line.0 as u64;
-    let blank = checks::is_blank(its_cabinet, its_line)
-        | checks::is_blank(plate_cabinet, plate_line);
-    if blank {
-        return Outcome::Refused(Refusal::BlankPlate);
-    }
-    if its_cabinet != plate_cabinet {
-        return Outcome::Refused(Refusal::WrongCabinet);
-    }
-    if its_line != plate_line {
-        return Outcome::Refused(Refusal::WrongLine);
-    }
-    let n = layout::task_count(file);
-    let m = layout::word_count(file);
-    if !checks::counts_in_range(n, m) {
-        return Outcome::Refused(Refusal::WrongCounts);
-    }
-    if file.len() != layout::file_length(edition, n, m) {
-        return Outcome::Refused(Refusal::WrongLength);
-    }
-    Outcome::Done
-}
 
 // Asks 7 to 12, of what was unpacked.
 fn body(
@@ -152,7 +115,7 @@ pub fn read(
     ensures { λ r. ⌜ r ≡ readAnswer (now (file .entry)) (cabinet .0) (line .0) (now (catalogue .entry)) (now (out .entry)) ⌝ }
     ensures { λ _. ⌜ now (out .exit) ≡ readOut (now (file .entry)) (cabinet .0) (line .0) (now (catalogue .entry)) (now (out .entry)) ⌝ }
 {
-    let outcome = head(file, cabinet, line);
+    let outcome = file_head::head(file, cabinet, line);
     match outcome {
         Outcome::Refused(r) => refused(r),
         Outcome::Done => rest(file, catalogue, out),

@@ -5,9 +5,10 @@
 // another catalogue would look whole.
 //
 // The table's headings: due is the deadline, jit the jitter (a column that is left out where every jitter is 0), pr the priority,
-// th the threshold, resp the response time, slack what is left from it to the deadline, tol the tolerance, and fit whether every
-// region of the job is at most its length. Lines under it name the worst job of an active period, where that isn't job 0 or the
-// deadline is missed.
+// th the threshold, resp the response time, slack what is left from it to the deadline, tol the tolerance, fit whether every
+// region of the job is at most its length, and points whether the test of fixed preemption points passes, which is sufficient only.
+// Lines under it name the worst job of an active period, where that isn't job 0 or the deadline is missed, and the first job that
+// the test doesn't show.
 mod arguments;
 mod unnamed;
 

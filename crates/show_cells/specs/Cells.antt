@@ -10,9 +10,11 @@ use Rattle.paper.specs.declared.Outcome.{Outcome}
 use Rattle.paper.specs.declared.Time.{Time}
 use Rattle.paper.specs.declared.Time.the-variants as Time
 use Rattle.paper.specs.declared.TicksAnswer.{TicksAnswer}
+use Rattle.paper.specs.declared.Shown.{Shown}
+use Rattle.paper.specs.declared.Shown.the-variants.{NotShown, Passes}
 use Rattle.cells.specs.declared.Cell.{Cell}
 use Rattle.cells.specs.declared.Cell.the-variants as Cell
-use Rattle.show_facts.specs.Facts.{jobOf, timeAt}
+use Rattle.show_facts.specs.Facts.{jobOf, timeAt, shownAt}
 use Rattle.show_facts.specs.declared.Facts.{Facts}
 use Rattle.first_jobs.specs.Firsts.{firstJitter}
 
@@ -40,11 +42,16 @@ ticksCell (negsuc x) = Cell.Minus (suc x)
 abbrev pub fitCell : Bool → Cell
 fitCell fits = cond fits Cell.Yes Cell.No
 
+-- by the test of fixed preemption points, which is sufficient only
+abbrev pub verdictCell : Shown → Cell
+verdictCell Passes = Cell.Passes
+verdictCell NotShown = Cell.NotShown
+
 -- a cell that a call answers; a dash where it is turned away
 abbrev pub shown : Outcome → Cell → Cell
 shown o x = whenDone o x Cell.Dash
 
--- the cells of job k + 1, from left to right: cost, period, deadline, jitter, priority, threshold, response time, slack, tolerance, length, fit
+-- the cells of job k + 1, from left to right: cost, period, deadline, jitter, priority, threshold, response time, slack, tolerance, length, fit, points
 abbrev pub cellsOf : Facts → ℕ → List Cell
 cellsOf f k =
     Cell.Number (jobOf f k .cost) ∷
@@ -57,7 +64,8 @@ cellsOf f k =
     shown (f .times .outcome) (slackCell (timeAt (f .times) k) (jobOf f k .deadline)) ∷
     shown (f .tolerances .outcome) (ticksCell (ticksAt (f .tolerances) k)) ∷
     shown (f .lengths .outcome) (ticksCell (ticksAt (f .lengths) k)) ∷
-    shown (f .lengths .outcome) (fitCell (getD (f .fits) k false)) ∷ []
+    shown (f .lengths .outcome) (fitCell (getD (f .fits) k false)) ∷
+    shown (f .points .outcome) (verdictCell (shownAt (f .points) k)) ∷ []
 
 -- the jitters' column, 3, is left out where no job has one
 abbrev pub columnStands : Facts → ℕ → Bool

@@ -5,19 +5,21 @@ ghost use mathlib.Core.Path.{_≡_};
 ghost use mathlib.Core.Bool.{false};
 ghost use lib.ListN.{getD};
 ghost use Rattle.paper.specs.Numbers.{mostTasks};
-ghost use Rattle.show_facts.specs.Facts.{timeAt};
-ghost use Rattle.show_cells.specs.Cells.{ticksAt, placeCell, timeCell, slackCell, ticksCell, fitCell, shown, cellsOf, columnStands};
+ghost use Rattle.show_facts.specs.Facts.{timeAt, shownAt};
+ghost use Rattle.show_cells.specs.Cells.{ticksAt, placeCell, timeCell, slackCell, ticksCell, fitCell, verdictCell, shown, cellsOf, columnStands};
 use cells::Cell;
 use first_jobs::Asked;
 use paper::MOST_TASKS;
 use paper::Outcome;
+use paper::PointsAnswer;
+use paper::Shown;
 use paper::TicksAnswer;
 use paper::Time;
 use paper::TimesAnswer;
 use show_facts::Facts;
 
-// The columns of numbers: cost, period, deadline, jitter, priority, threshold, response time, slack, tolerance, length, fit.
-pub const COLUMNS: usize = 11;
+// The columns of numbers: cost, period, deadline, jitter, priority, threshold, response time, slack, tolerance, length, fit, points.
+pub const COLUMNS: usize = 12;
 
 pub const JITTERS: usize = 3;
 
@@ -124,6 +126,23 @@ fn fits_cell(lengths: TicksAnswer, fits: [bool; MOST_TASKS], k: usize) -> Cell
     shown_cell(outcome, fit_cell(show_facts::fit_at(fits, k)))
 }
 
+fn verdict_cell(verdict: Shown) -> Cell
+    ensures { λ r. ⌜ r ≡ verdictCell verdict ⌝ }
+{
+    match verdict {
+        Shown::Passes => Cell::Passes,
+        Shown::NotShown => Cell::NotShown,
+    }
+}
+
+fn points_cell(answer: PointsAnswer, k: usize) -> Cell
+    requires { ⌜ k < mostTasks ⌝ }
+    ensures { λ r. ⌜ r ≡ shown (answer .outcome) (verdictCell (shownAt answer k)) ⌝ }
+{
+    let outcome = answer.outcome;
+    shown_cell(outcome, verdict_cell(show_facts::shown_at(answer, k)))
+}
+
 pub fn cell(f: Facts, k: usize, column: usize) -> Cell
     requires { ⌜ k < mostTasks ⌝ }
     ensures { λ r. ⌜ r ≡ getD (cellsOf f k) column Cell.Dash ⌝ }
@@ -144,6 +163,7 @@ pub fn cell(f: Facts, k: usize, column: usize) -> Cell
             let fits = f.fits;
             fits_cell(f.lengths, fits, k)
         }
+        11 => points_cell(f.points, k),
         _ => Cell::Dash,
     }
 }

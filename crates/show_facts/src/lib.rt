@@ -6,11 +6,14 @@ ghost use mathlib.Core.Bool.{false};
 ghost use lib.ListN.{getD};
 ghost use Rattle.paper.specs.Vocabulary.{listTo};
 ghost use Rattle.paper.specs.Numbers.{mostTasks, rec};
-ghost use Rattle.show_facts.specs.Facts.{responseAt, timeAt, fitsAt, factsOf};
+ghost use Rattle.show_facts.specs.Facts.{responseAt, timeAt, fitsAt, verdictAt, shownAt, factsOf};
 use paper::FitAnswer;
 use paper::MOST_TASKS;
+use paper::PointVerdict;
+use paper::PointsAnswer;
 use paper::Record;
 use paper::Response;
+use paper::Shown;
 use paper::Table;
 use paper::TicksAnswer;
 use paper::Time;
@@ -24,6 +27,7 @@ pub struct Facts {
     // Whether every region of the job is at most its length, where lengths are given.
     pub fits: [bool; MOST_TASKS],
     pub check: FitAnswer,
+    pub points: PointsAnswer,
 }
 
 fn all_fits(
@@ -53,6 +57,7 @@ pub fn facts_of(t: Table, own: &[u32], catalogue: &[u32]) -> Facts
     let ticks = lengths.ticks;
     let fits = all_fits(rs, ticks, own, catalogue);
     let check = lengths::region_check(t, own, catalogue);
+    let points = points::point_check(t, own, catalogue);
     Facts {
         table: t,
         times,
@@ -60,6 +65,7 @@ pub fn facts_of(t: Table, own: &[u32], catalogue: &[u32]) -> Facts
         lengths,
         fits,
         check,
+        points,
     }
 }
 
@@ -84,6 +90,22 @@ pub fn fit_at(fits: [bool; MOST_TASKS], k: usize) -> bool
     ensures { λ r. ⌜ r ≡ getD fits k false ⌝ }
 {
     fits[k]
+}
+
+fn verdict_at(answer: PointsAnswer, k: usize) -> PointVerdict
+    requires { ⌜ k < mostTasks ⌝ }
+    ensures { λ r. ⌜ r ≡ verdictAt answer k ⌝ }
+{
+    let tasks = answer.tasks;
+    tasks[k]
+}
+
+pub fn shown_at(answer: PointsAnswer, k: usize) -> Shown
+    requires { ⌜ k < mostTasks ⌝ }
+    ensures { λ r. ⌜ r ≡ shownAt answer k ⌝ }
+{
+    let task = verdict_at(answer, k);
+    task.verdict
 }
 
 pub fn record_of(t: Table, k: usize) -> Record

@@ -37,14 +37,15 @@ fn put_heading(buf: &mut [u8], at: usize, column: usize, width: usize) -> usize
         7 => cells::put_right(buf, at, b"slack", width),
         8 => cells::put_right(buf, at, b"tol", width),
         9 => cells::put_right(buf, at, b"length", width),
-        _ => cells::put_right(buf, at, b"fit", width),
+        10 => cells::put_right(buf, at, b"fit", width),
+        _ => cells::put_right(buf, at, b"points", width),
     }
 }
 
 fn heading_width(column: usize) -> usize {
     match column {
         0 | 6 | NAMES => 4,
-        1 | 9 => 6,
+        1 | 9 | 11 => 6,
         4 | 5 => 2,
         7 => 5,
         _ => 3,
@@ -299,6 +300,22 @@ fn put_worsts(buf: &mut [u8], at: usize, f: Facts, n: usize) -> usize
     end
 }
 
+// What the test of fixed preemption points doesn't show of a job is said to be no more than that.
+fn put_not_shown(buf: &mut [u8], at: usize, job: usize) -> usize
+    requires { ⌜ at ≤ length (now buf) ⌝ }
+    ensures { λ r. ⌜ r ≤ length (now (buf .entry)) ⌝ }
+{
+    if job == 0 {
+        return at;
+    }
+    let named = say::count(buf, at, b"points: not shown for job", job as u64);
+    say::word(
+        buf,
+        named,
+        b"; the test is sufficient only, and such a job may be in time all the same\n",
+    )
+}
+
 fn put_why(buf: &mut [u8], at: usize, what: &[u8], r: Refusal) -> usize
     requires { ⌜ at ≤ length (now buf) ⌝ }
     ensures { λ x. ⌜ x ≤ length (now (buf .entry)) ⌝ }
@@ -399,7 +416,8 @@ fn put_end(buf: &mut [u8], at: usize, f: Facts, n: usize) -> usize
 {
     let parted = say::newline(buf, at);
     let told = put_worsts(buf, parted, f, n);
-    let noted = put_note(buf, told, verdicts::note_of(f));
+    let shown = put_not_shown(buf, told, verdicts::not_shown(f));
+    let noted = put_note(buf, shown, verdicts::note_of(f));
     put_verdict(buf, noted, verdicts::verdict_of(f))
 }
 

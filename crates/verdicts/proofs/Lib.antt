@@ -1,3 +1,4 @@
 pub mod Says
 pub mod Verdicts
 pub mod Notes
+pub mod Points

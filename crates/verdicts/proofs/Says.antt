@@ -10,8 +10,8 @@ use Rattle.paper.specs.declared.FitAnswer.the-variants as Answer
 use Rattle.paper.specs.declared.Refusal.{Refusal}
 use Rattle.paper.specs.declared.Outcome.{Outcome}
 use Rattle.paper.specs.declared.Outcome.the-variants.{Done, Refused}
-use Rattle.first_jobs.specs.Firsts.{jobs, keepsAt}
-use Rattle.verdicts.specs.Verdicts.{firstNote, deadlinesOf, fitOf, verdictOf}
+use Rattle.first_jobs.specs.Firsts.{jobs, keepsAt, passesAt}
+use Rattle.verdicts.specs.Verdicts.{firstNote, notShown, deadlinesOf, fitOf, verdictOf}
 use Rattle.verdicts.specs.declared.Note.the-variants as Note
 use Rattle.show_facts.specs.declared.Facts.{Facts}
 use Rattle.verdicts.specs.declared.Deadlines.{Deadlines}
@@ -28,6 +28,9 @@ note-tolerances a b c r e f = rw (e, f)
 
 pub note-lengths : (a b c : Outcome) (r : Refusal) → a ≡ Done → b ≡ Done → c ≡ Refused r → Note.Lengths r ≡ firstNote a b c
 note-lengths a b c r e f g = rw (e, f, g)
+
+pub first-is : (f : Facts) {n first : ℕ} → f .points .outcome ≡ Done → n ≡ jobs f → first ≡ lowest n (λ k. not (passesAt f k)) → first ≡ notShown f
+first-is f e n h = rw (e, ← n) h
 
 pub none-late : (late : ℕ) → late ≡ 0 → Kept ≡ deadlinesOf late
 none-late late e = rw (eq-eqb late 0 e)

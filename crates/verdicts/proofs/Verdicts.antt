@@ -39,7 +39,7 @@ use Rattle.verdicts.specs.declared.Fit.the-variants.{Fitting, TooLong}
 use Rattle.verdicts.specs.declared.Verdict.the-variants.{Unchecked, Checked}
 
 -- no first job fails a test exactly where every job passes it
-none-fails : (n : ℕ) (test : ℕ → Bool) → (lowest n (λ k. not (test k)) ≡ 0) ↔ (every n test ≡ true)
+pub none-fails : (n : ℕ) (test : ℕ → Bool) → (lowest n (λ k. not (test k)) ≡ 0) ↔ (every n test ≡ true)
 none-fails n test = (
   λ e.
       ⊎-elim
@@ -91,7 +91,7 @@ few n e = bounds 1 mostTasks n e .1
 
 module _ (t : Table) (own catalogue : List ℕ) where
   -- the jobs looked at are the table's
-  all-jobs : tasksInRange (t .n) ≡ true → jobs (factsOf t own catalogue) ≡ t .n
+  pub all-jobs : tasksInRange (t .n) ≡ true → jobs (factsOf t own catalogue) ≡ t .n
   all-jobs e = let h = few (t .n) e in omega arith
 
   -- a job keeps its deadline where it passes
@@ -147,7 +147,7 @@ module _ (t : Table) (own catalogue : List ℕ) where
       (λ h. k .0 (s .2 ∙ h), λ h. sym (s .2) ∙ k .1 h)
 
   -- a table that the region check doesn't turn away has lengths
-  in-range : firstOf (fitAsks t own catalogue) ≡ Done → tasksInRange (t .n) ≡ true
+  pub in-range : firstOf (fitAsks t own catalogue) ≡ Done → tasksInRange (t .n) ≡ true
   in-range e = both (tasksInRange (t .n)) (leb (length own) mostWords) (not-false _ (done-none (fitAsks t own catalogue) e .0)) .0
 
   lengths-done : firstOf (fitAsks t own catalogue) ≡ Done → firstOf (lengthsAsks t) ≡ Done

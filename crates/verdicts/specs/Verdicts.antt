@@ -1,4 +1,4 @@
--- What a sheet says under its table, out of the calls' answers alone: the note, and the verdict.
+-- What a sheet says under its table, out of the calls' answers alone: the notes, and the verdict.
 use Prim.Native.Nat.{ℕ}
 use mathlib.Core.Bool.{cond}
 use lib.Dec.{eqb}
@@ -9,7 +9,7 @@ use Rattle.paper.specs.declared.Outcome.the-variants.{Done, Refused}
 use Rattle.paper.specs.declared.FitAnswer.{FitAnswer}
 use Rattle.paper.specs.declared.FitAnswer.the-variants as Answer
 use Rattle.show_facts.specs.declared.Facts.{Facts}
-use Rattle.first_jobs.specs.Firsts.{firstLate, firstUnfit}
+use Rattle.first_jobs.specs.Firsts.{firstLate, firstUnfit, firstNotShown}
 use Rattle.verdicts.specs.declared.Note.{Note}
 use Rattle.verdicts.specs.declared.Note.the-variants as Note
 use Rattle.verdicts.specs.declared.Deadlines.{Deadlines}
@@ -27,6 +27,10 @@ noteFrom (Refused r) note next = note r
 abbrev pub firstNote : Outcome → Outcome → Outcome → Note
 firstNote times tolerances lengths =
     noteFrom times Note.Times (noteFrom tolerances Note.Tolerances (noteFrom lengths Note.Lengths Note.Nothing))
+
+-- the number of the first job that the test of fixed preemption points doesn't show, or 0, as where it is turned away
+abbrev pub notShown : Facts → ℕ
+notShown f = whenDone (f .points .outcome) (firstNotShown f) 0
 
 -- the two halves of the verdict: the first by the number of the first job that is late, or 0, the second by the region check's answer
 abbrev pub deadlinesOf : ℕ → Deadlines

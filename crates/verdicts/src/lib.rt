@@ -1,6 +1,6 @@
-// The note under the table, and the verdict. specs/Verdicts.antt says what each is by the calls' answers.
+// The notes under the table, and the verdict. specs/Verdicts.antt says what each is by the calls' answers.
 ghost use mathlib.Core.Path.{_≡_};
-ghost use Rattle.verdicts.specs.Verdicts.{firstNote, deadlinesOf, fitOf, verdictOf};
+ghost use Rattle.verdicts.specs.Verdicts.{firstNote, notShown, deadlinesOf, fitOf, verdictOf};
 use first_jobs::Asked;
 use paper::FitAnswer;
 use paper::Outcome;
@@ -57,6 +57,18 @@ pub fn note_of(f: Facts) -> Note
     let of_tolerances = tolerances.outcome;
     let of_lengths = lengths.outcome;
     first_note(of_times, of_tolerances, of_lengths)
+}
+
+// The number of the first job that the test of fixed preemption points doesn't show, or 0; 0 where the test is turned away.
+pub fn not_shown(f: Facts) -> usize
+    ensures { λ r. ⌜ r ≡ notShown f ⌝ }
+{
+    let points = f.points;
+    let outcome = points.outcome;
+    match outcome {
+        Outcome::Refused(_) => 0,
+        Outcome::Done => first_jobs::first_failing(f, Asked::Points, first_jobs::jobs_of(f.table)),
+    }
 }
 
 fn deadlines_of(late: usize) -> Deadlines

@@ -10,8 +10,9 @@ use Rattle.paper.proofs.Sizes.{length-below}
 use Rattle.paper.specs.declared.Refusal.the-variants.{WrongSeal, SpareBitSet, OutOfRange, BadAssignment, BadRegions, NoRoom}
 use Rattle.paper.specs.declared.Outcome.{Outcome}
 use Rattle.checks.proofs.Asks.{stops, goes-on}
+use Rattle.file_head.proofs.Found.{found}
 use Rattle.reader.specs.Stages.{bodyAsks}
-use Rattle.reader.proofs.Stages.{found, own-few, unpackedAsks, body-asked}
+use Rattle.reader.proofs.Stages.{own-few, unpackedAsks, body-asked}
 use borrow.Author.Needs.{needs}
 use Rattle.reader.proofs.body.Statement.{statement}
 use Rattle.reader.proofs.body.Tie as tie

@@ -48,6 +48,9 @@ answer-cell-requires-2 c κs = search needs
 fits-cell-requires : tie.Need-fits-cell-requires
 fits-cell-requires c κs = search needs
 
+points-cell-requires : tie.Need-points-cell-requires
+points-cell-requires c κs = search needs
+
 returns : tie.Need-returns
 returns c =
     let a = c .before .before .before .args in
@@ -105,10 +108,15 @@ returns-11 c =
 
 returns-12 : tie.Need-returns-12
 returns-12 c =
+    let a = c .before .before .before .args in
+    in-column (cellsOf (a .f) (a .k)) (a .column) 11 (c .before .match .keys12) (c .points-cell .ensures)
+
+returns-13 : tie.Need-returns-13
+returns-13 c =
     let a = c .before .before .args in
     let r = c .match .rest in
     past-columns (cellsOf (a .f) (a .k)) (a .column)
-    (one-past (a .column) 10 (one-past (a .column) 9 (one-past (a .column) 8 (one-past (a .column) 7 (one-past (a .column) 6 (one-past (a .column) 5 (one-past (a .column) 4 (one-past (a .column) 3 (one-past (a .column) 2 (one-past (a .column) 1 (one-past (a .column) 0 (omega arith) (r .0 .0 .0 .0 .0 .0 .0 .0 .0 .0 .1)) (r .0 .0 .0 .0 .0 .0 .0 .0 .0 .1)) (r .0 .0 .0 .0 .0 .0 .0 .0 .1)) (r .0 .0 .0 .0 .0 .0 .0 .1)) (r .0 .0 .0 .0 .0 .0 .1)) (r .0 .0 .0 .0 .0 .1)) (r .0 .0 .0 .0 .1)) (r .0 .0 .0 .1)) (r .0 .0 .1)) (r .0 .1)) (r .1))
+    (one-past (a .column) 11 (one-past (a .column) 10 (one-past (a .column) 9 (one-past (a .column) 8 (one-past (a .column) 7 (one-past (a .column) 6 (one-past (a .column) 5 (one-past (a .column) 4 (one-past (a .column) 3 (one-past (a .column) 2 (one-past (a .column) 1 (one-past (a .column) 0 (omega arith) (r .0 .0 .0 .0 .0 .0 .0 .0 .0 .0 .0 .1)) (r .0 .0 .0 .0 .0 .0 .0 .0 .0 .0 .1)) (r .0 .0 .0 .0 .0 .0 .0 .0 .0 .1)) (r .0 .0 .0 .0 .0 .0 .0 .0 .1)) (r .0 .0 .0 .0 .0 .0 .0 .1)) (r .0 .0 .0 .0 .0 .0 .1)) (r .0 .0 .0 .0 .0 .1)) (r .0 .0 .0 .0 .1)) (r .0 .0 .0 .1)) (r .0 .0 .1)) (r .0 .1)) (r .1))
 
 pub cell-spec : {M : Type 1} → statement M
 cell-spec =
@@ -127,6 +135,7 @@ cell-spec =
     answer-cell-requires
     answer-cell-requires-2
     fits-cell-requires
+    points-cell-requires
     returns
     returns-2
     returns-3
@@ -138,4 +147,5 @@ cell-spec =
     returns-9
     returns-10
     returns-11
-    returns-12)
+    returns-12
+    returns-13)

@@ -1,4 +1,4 @@
--- `show_sheet::put_columns` stays inside the buffer, whose length no turn changes. There are eleven columns.
+-- `show_sheet::put_columns` stays inside the buffer, whose length no turn changes. There are twelve columns.
 use Prim.Native.Nat.{_≤_, _-_}
 use mathlib.Core.Path.{_≡_}
 use borrow.Author.Needs.{needs}
@@ -7,10 +7,10 @@ use Rattle.show_sheet.proofs.put_columns.Statement.{statement}
 use Rattle.show_sheet.proofs.put_columns.Tie as tie
 
 abbrev Inv-loop : tie.InvT-loop
-Inv-loop buf₀ at f row widths end₀ c₀ buf end c = (length buf ≡ length buf₀) × (end ≤ length buf₀) × (c ≤ 11)
+Inv-loop buf₀ at f row widths end₀ c₀ buf end c = (length buf ≡ length buf₀) × (end ≤ length buf₀) × (c ≤ 12)
 
 abbrev μ-loop : tie.MeasureT-loop
-μ-loop buf₀ at f row widths end₀ c₀ buf end c = 11 - c
+μ-loop buf₀ at f row widths end₀ c₀ buf end c = 12 - c
 
 loop-holds : tie.Need-loop-holds Inv-loop μ-loop
 loop-holds c = search needs

@@ -1,4 +1,4 @@
--- `show_sheet::widths_of` fills the twelve widths one by one.
+-- `show_sheet::widths_of` fills the thirteen widths one by one.
 use Prim.Native.Nat.{_≤_, _-_}
 use mathlib.Core.Path.{_≡_}
 use borrow.Author.Needs.{needs}
@@ -7,10 +7,10 @@ use Rattle.show_sheet.proofs.widths_of.Statement.{statement}
 use Rattle.show_sheet.proofs.widths_of.Tie as tie
 
 abbrev Inv-loop : tie.InvT-loop
-Inv-loop f n cabinet house widths₀ c₀ widths c = (length widths ≡ 12) × (c ≤ 12)
+Inv-loop f n cabinet house widths₀ c₀ widths c = (length widths ≡ 13) × (c ≤ 13)
 
 abbrev μ-loop : tie.MeasureT-loop
-μ-loop f n cabinet house widths₀ c₀ widths c = 12 - c
+μ-loop f n cabinet house widths₀ c₀ widths c = 13 - c
 
 loop-holds : tie.Need-loop-holds Inv-loop μ-loop
 loop-holds c = search needs

@@ -13,11 +13,11 @@ use Rattle.paper.specs.Refusals.{firstOf, blank}
 use Rattle.paper.specs.declared.Refusal.the-variants.{Short, WrongEdition, BlankPlate, WrongCabinet, WrongLine, WrongCounts, WrongLength}
 use Rattle.paper.specs.declared.Outcome.{Outcome}
 use Rattle.checks.proofs.Asks.{stops, goes-on}
-use Rattle.reader.specs.Stages.{headAsks}
-use Rattle.reader.proofs.Stages.{differs, agrees, found, either-blank}
+use Rattle.file_head.specs.Asks.{headAsks}
+use Rattle.file_head.proofs.Found.{differs, agrees, found, either-blank}
 use borrow.Author.Needs.{needs}
-use Rattle.reader.proofs.head.Statement.{statement}
-use Rattle.reader.proofs.head.Tie as tie
+use Rattle.file_head.proofs.head.Statement.{statement}
+use Rattle.file_head.proofs.head.Tie as tie
 
 abbrev file : tie.Start → List ℕ
 file s = now (s .args .file)
