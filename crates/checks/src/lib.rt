@@ -1,4 +1,7 @@
 // The conditions that the refusals 5, 9, 10, 14, 15, 18 and 19 ask, shared by the calls.
+
+#![tactic(auto)]
+
 ghost use Rattle.std.specs.Prelude.{◌≡◌, not, ◌≤◌, leb, eqb, get_or};
 ghost use Rattle.paper.specs.Vocabulary.{every};
 ghost use Rattle.paper.specs.Numbers.{most_tasks, rec, tasks_in_range, counts_in_range, ticks_in_range, record_in_range, records_in_range, each_once, thresholds_hold, unassigned, assignment_holds};
@@ -46,7 +49,7 @@ fn record_in_range(r: Record) -> bool
 }
 
 // What is asked of each record.
-#[derive(Drop)]
+#[derive(Clone, Copy)]
 enum Test {
     InRange,
     Unassigned,

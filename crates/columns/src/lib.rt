@@ -1,11 +1,14 @@
 // A table's numbers as columns, which is what the analysis runs on.
+
+#![tactic(auto)]
+
 ghost use Rattle.std.specs.Prelude.{◌≡◌, ◌+◌, ◌*◌, ◌<◌, length};
 ghost use Rattle.paper.specs.Numbers.{most_tasks};
 ghost use Rattle.columns.specs.Columns.{value_in, task_columns, column_at, column_of, columns_of, filled_to, number_at};
 
 use paper::{MOST_TASKS, Record};
 
-#[derive(Drop)]
+#[derive(Clone, Copy)]
 pub enum Column {
     Cost,
     Period,
@@ -27,6 +30,7 @@ pub type Tasks = [u64; TASK_NUMBERS];
 pub type Numbers = [u64; MOST_TASKS];
 
 // C(k), T(k), D(k) and J(k).
+#[tactic(auto, unfolding(crate::specs::Columns::number_at))]
 pub fn cost(y: &Tasks, k: usize) -> u64
     requires { k < most_tasks }
     ensures { result ≡ number_at 0 y.now k }
@@ -34,6 +38,7 @@ pub fn cost(y: &Tasks, k: usize) -> u64
     y[k]
 }
 
+#[tactic(auto, unfolding(crate::specs::Columns::number_at))]
 pub fn period(y: &Tasks, k: usize) -> u64
     requires { k < most_tasks }
     ensures { result ≡ number_at 1 y.now k }
@@ -41,6 +46,7 @@ pub fn period(y: &Tasks, k: usize) -> u64
     y[MOST_TASKS + k]
 }
 
+#[tactic(auto, unfolding(crate::specs::Columns::number_at))]
 pub fn deadline(y: &Tasks, k: usize) -> u64
     requires { k < most_tasks }
     ensures { result ≡ number_at 2 y.now k }
@@ -48,6 +54,7 @@ pub fn deadline(y: &Tasks, k: usize) -> u64
     y[2 * MOST_TASKS + k]
 }
 
+#[tactic(auto, unfolding(crate::specs::Columns::number_at))]
 pub fn jitter(y: &Tasks, k: usize) -> u64
     requires { k < most_tasks }
     ensures { result ≡ number_at 3 y.now k }

@@ -9,7 +9,7 @@ use mathlib.Core.Path.{◌≡◌, refl, sym, subst}
 use mathlib.Core.List.{List, [], ◌∷◌}
 use Prim.Native.Nat.{ℕ}
 use seplogic.Ra.Ura.{Ura}
-use mir.Syntax.{Name, Sym, Lifetime, named, erased, Ty, Place, place, Opd as Operand, copy, aggregate, Body, seq, assign, return, call, Local, local, value_local, Fn}
+use mir.Syntax.{Callee, Sym, Lifetime, named, erased, Ty, Place, place, Opd as Operand, copy, aggregate, Body, seq, assign, return, call, Local, local, value_local, Fn}
 use mir.Val.{Val}
 use base.Logic.{SProp, ent, sep, emp, via, fst∗, snd∗, ex_e, comm∗, mono_l, emp∗, id⊢}
 use base.Fml.{Fml}
@@ -42,12 +42,12 @@ use denote.Triple.Spec.{triple_of, Meets}
 use denote.Triple.Table.{entered, cited}
 use denote.Triple.Walked.{Stays, has_of, walk_of, ends_at, walked, walk_Meets}
 use Rattle.handed.proofs.Locals.{homes, copies, past, past_finds, alloc_all, pass_all, free_all, reads_all}
-use Rattle.handed.proofs.Data.{Data, Fits, fits, slice, part-ty}
+use Rattle.handed.proofs.Data.{Data, Fits, fits, slice-fits, part-ty}
 use Rattle.handed.proofs.Params as params
 use Rattle.handed.proofs.Structs.{Pair, pair, two, two_fits}
 
 -- The caller shows what the callee requires, and learns φ of the result and that its machine value u is one of its type.
-module _ {M : Type 1} {𝓤 : Ura M} {𝓛 : Logic 𝓤} {K : Type 0} {Γ : List (Item 𝓤)} {E : Env 𝓤 𝓛.H} {C : Calls 𝓤 𝓛.H} {Λ : Loops 𝓤 𝓛.H} {q : Post 𝓤 𝓛.H} {f : Name} {xs : List Operand} {d : Place} {rest : Body} where
+module _ {M : Type 1} {𝓤 : Ura M} {𝓛 : Logic 𝓤} {K : Type 0} {Γ : List (Item 𝓤)} {E : Env 𝓤 𝓛.H} {C : Calls 𝓤 𝓛.H} {Λ : Loops 𝓤 𝓛.H} {q : Post 𝓤 𝓛.H} {f : Callee} {xs : List Operand} {d : Place} {rest : Body} where
   open 𝓛 use {H}
 
   asks : K → FmC 𝓤 H 𝓛.laws C → (T : Ended) (c : Clauses 𝓤 T) → Triple 𝓤 (C f) (triple_of 𝓛 T.signature (closing 𝓛 T c))
@@ -71,7 +71,7 @@ module _ {M : Type 1} {𝓤 : Ura M} {𝓛 : Logic 𝓤} {K : Type 0} {Γ : List
       move t (1 ∷ []) $ use1 𝓛 (‵ own ⊛ ‵ own) (twices 𝓛 Ts copied a vss) $ split t $ move t (2 ∷ 0 ∷ []) $
       use2 𝓛 (raw (contract.pre x)) (via 𝓤 (sep 𝓤 (emp 𝓤) entry) (emp∗ 𝓤 entry) (via 𝓤 (sep 𝓤 needed entry) (mono_l 𝓤 entry required) (comm∗ 𝓤 needed entry))) $
       calls_at t fm contract met x opds (λ u.
-      use1 𝓛 (later (some (λ (r : Res S κs). (raw (alive 𝓛 S κs qs) ⊛ ‵ (R.own r (u ∷ []))) ⊛ raw (ensured 𝓛 T c κs a g r)))) (id⊢ 𝓤 _) $ await t tt $ pick t (λ r.
+      use1 𝓛 (later (some (λ (r : Res S κs). (raw (alive 𝓛 S κs qs) ⊛ ‵ (R.own_val r (u ∷ []))) ⊛ raw (ensured 𝓛 T c κs a g r)))) (id⊢ 𝓤 _) $ await t tt $ pick t (λ r.
       split t $ move t (1 ∷ []) $ use1 𝓛 (raw (fact 𝓤 (φ r))) (ex_e 𝓤 _ (λ ws. via 𝓤 _ (snd∗ 𝓤 (sem 𝓛 (lasts T κs a ws)) ((c κs a).ensures g r (at_exit T κs a ws))) (said r (at_exit T κs a ws)))) $
       heard t (φ r) (λ e. split t $ move t (1 ∷ []) $ peeks t R (Is R) (shows 𝓛 R) r (u ∷ []) (λ is. k u r e is))))
 
@@ -79,7 +79,7 @@ module _ {M : Type 1} {𝓤 : Ura M} {𝓛 : Logic 𝓤} {K : Type 0} {Γ : List
 abbrev declared : List Ty → Sym → Ty → ℕ → RattleType → List Local
 declared τs ν σ j Q = local (pair ν σ (part-ty (named j) Q)) value_local ∷ homes τs (local σ value_local ∷ local (part-ty erased Q) value_local ∷ [])
 
-abbrev code : List Ty → Name → Name → Body
+abbrev code : List Ty → Callee → Callee → Body
 code τs f g =
     seq (call f (copies 1 τs) (place (past 0 τs) []))
     (seq (call g (copy (place (past 0 τs) []) ∷ copies 1 τs) (place (past 1 τs) []))
@@ -121,10 +121,10 @@ module _ {M : Type 1} {𝓤 : Ura M} (𝓛 : Logic 𝓤) (𝓜 : Model 𝓤 𝓛
   abbrev PartOf : Contract 𝓤
   PartOf = triple_of 𝓛 (ForPart ss O (Part n j ok Q)).signature (closing 𝓛 (ForPart ss O (Part n j ok Q)) PartSays)
 
-  module _ (κs : Lfts n) (C : Calls 𝓤 H) (Λ : Loops 𝓤 H) (fm : FmC 𝓤 H 𝓛.laws C) (f g : Name) (known-outcome : Triple 𝓤 (C f) OutcomeOf) (known-part : Triple 𝓤 (C g) PartOf)
+  module _ (κs : Lfts n) (C : Calls 𝓤 H) (Λ : Loops 𝓤 H) (fm : FmC 𝓤 H 𝓛.laws C) (f g : Callee) (known-outcome : Triple 𝓤 (C f) OutcomeOf) (known-part : Triple 𝓤 (C g) PartOf)
       (a : Denots (types_at ss κs)) (qs : Shares n) (vss : Valss (types_at ss κs)) (are : Typed (mirs (types_at ss κs)) (flat (types_at ss κs) vss)) (Kf : Val → SProp 𝓤)
       (returned : (o : O.Denot) (b : Bor (List Q.Denot)) (u v : Val) → Told κs a o → Cut κs a b
-      → ent 𝓤 (sep 𝓤 (toks 𝓛 n κs qs) (sem 𝓛 ((P (named_lft n j ok κs)).own (struct.made (named_lft n j ok κs) o b) (two u v ∷ [])))) (Kf (two u v))) where
+      → ent 𝓤 (sep 𝓤 (toks 𝓛 n κs qs) (sem 𝓛 ((P (named_lft n j ok κs)).own_val (struct.made (named_lft n j ok κs) o b) (two u v ∷ [])))) (Kf (two u v))) where
     abbrev Ts : List RattleType
     Ts = types_at ss κs
 
@@ -132,9 +132,9 @@ module _ {M : Type 1} {𝓤 : Ura M} (𝓛 : Logic 𝓤) (𝓜 : Model 𝓤 𝓛
     B = ShrSlice (named j) (lft_at n j ok κs) Q
 
     leaves : (o : O.Denot) (b : B.Denot) (u v : Val) → Told κs a o → Cut κs a b
-        → ent 𝓤 (⋆ 𝓛 (‵ (B.own b (v ∷ [])) ∷ raw (toks 𝓛 n κs qs) ∷ ‵ (owns (O ∷ Ts) (o, a) (u ∷ [], vss)) ∷ [])) (Kf (two u v))
+        → ent 𝓤 (⋆ 𝓛 (‵ (B.own_val b (v ∷ [])) ∷ raw (toks 𝓛 n κs qs) ∷ ‵ (owns (O ∷ Ts) (o, a) (u ∷ [], vss)) ∷ [])) (Kf (two u v))
     leaves o b u v e e' =
-        qed 𝓛 (‵ (B.own b (v ∷ [])) ∷ raw (toks 𝓛 n κs qs) ∷ ‵ (owns (O ∷ Ts) (o, a) (u ∷ [], vss)) ∷ []) ∵
+        qed 𝓛 (‵ (B.own_val b (v ∷ [])) ∷ raw (toks 𝓛 n κs qs) ∷ ‵ (owns (O ∷ Ts) (o, a) (u ∷ [], vss)) ∷ []) ∵
         suffices ! _ (returned o b u v e e') $ move ! (1 ∷ []) $ frame ! $ move ! (1 ∷ []) $ fsplit ! $ move ! (1 ∷ []) $ drop ! $
         -- [what o owns; what b owns]
         nothing ! $ move ! (2 ∷ 0 ∷ []) $ fjoin ! $ move ! (1 ∷ 0 ∷ []) $ fjoin ! $
@@ -142,7 +142,7 @@ module _ {M : Type 1} {𝓤 : Ura M} (𝓛 : Logic 𝓤) (𝓜 : Model 𝓤 𝓛
         (makes 𝓛 (O ∷ B ∷ []) (owns (O ∷ B ∷ []) (o, (b, tt))) (u ∷ [], (v ∷ [], tt))))
 
     part-fits : (ℓ : Lifetime) (b : B.Denot) (v : Val) → Is B b (v ∷ []) → Fits (part-ty ℓ Q) v
-    part-fits ℓ = fits (slice ℓ (lft_at n j ok κs) Q) 𝓛
+    part-fits ℓ = slice-fits ℓ (lft_at n j ok κs) Q 𝓛
 
     walk : {K : Type 0} → K → Seq K 𝓛 (raw (toks 𝓛 n κs qs) ∷ ‵ (owns Ts a vss) ∷ [])
         (allocs (declared (mirs Ts) ν outcome.ty j Q) (λ E. params' E (flat Ts vss) (runs C Λ E (code (mirs Ts) f g) (at_ret E Kf))))
@@ -179,10 +179,10 @@ module _ {M : Type 1} {𝓤 : Ura M} (𝓛 : Logic 𝓤) (𝓜 : Model 𝓤 𝓛
     -- a walk ends with the tokens and the struct r
     ends : (κs : Lfts n) (qs : Shares n) (bounds : AllOutlive n [] κs) (a : Denots (types_at ss κs)) (vss : Valss (types_at ss κs)) (h : (k κs a).ghost) (r : (P (named_lft n j ok κs)).Denot) (v : Val)
         → ent 𝓤 (emp 𝓤) ((k κs a).ensures h r (at_exit T κs a (params.finished κs ss (ps κs) a)))
-        → ent 𝓤 (sep 𝓤 (toks 𝓛 n κs qs) (sem 𝓛 ((P (named_lft n j ok κs)).own r (v ∷ [])))) ((walk_of 𝓛 T hs k).post ((κs, qs, bounds, a, vss), h) v)
+        → ent 𝓤 (sep 𝓤 (toks 𝓛 n κs qs) (sem 𝓛 ((P (named_lft n j ok κs)).own_val r (v ∷ [])))) ((walk_of 𝓛 T hs k).post ((κs, qs, bounds, a, vss), h) v)
     ends κs qs bounds a vss h r v shown =
         let ws = params.finished κs ss (ps κs) a in
-        qed 𝓛 (raw (toks 𝓛 n κs qs) ∷ ‵ ((P (named_lft n j ok κs)).own r (v ∷ [])) ∷ []) ∵
+        qed 𝓛 (raw (toks 𝓛 n κs qs) ∷ ‵ ((P (named_lft n j ok κs)).own_val r (v ∷ [])) ∷ []) ∵
         suffices ! _ (ends_at 𝓛 T hs k ((κs, qs, bounds, a, vss), h) v r ws (params.fits κs ss (all yes ss) a ws)) $
         use0 𝓛 (raw ((k κs a).ensures h r (at_exit T κs a ws))) shown $ use0 𝓛 (‵ (has_of κs ss (all yes ss) hs a ws vss)) (params.none-had 𝓛 κs ss (all yes ss) a ws vss) $
         -- [what is had of the parameters; the clause; the tokens; the struct]
@@ -194,10 +194,10 @@ module _ {M : Type 1} {𝓤 : Ura M} (𝓛 : Logic 𝓤) (𝓜 : Model 𝓤 𝓛
         → ent 𝓤 (fact 𝓤 (Told κs a o × Cut κs a b)) ((k κs a).ensures h (struct.made (named_lft n j ok κs) o b) e)
 
     -- fn is such a call, of f and g
-    abbrev IsCall : Fn → Name → Name → Type 0
+    abbrev IsCall : Fn → Callee → Callee → Type 0
     IsCall fn f g = (κs : Lfts n) → ◌≡◌ {A = List Local × Body} (fn.locals, fn.body) (declared (mirs (types_at ss κs)) ν outcome.ty j Q, code (mirs (types_at ss κs)) f g)
 
-    meets : Shown → (𝓣 : Tables 𝓤 H) (f g : Name) → Triple 𝓤 (𝓣.C f) OutcomeOf → Triple 𝓤 (𝓣.C g) PartOf → (fn : Fn) → IsCall fn f g → Meets 𝓛 T.signature (WpFn 𝓤 H 𝓣.C 𝓣.Λ fn) (closing 𝓛 T k)
+    meets : Shown → (𝓣 : Tables 𝓤 H) (f g : Callee) → Triple 𝓤 (𝓣.C f) OutcomeOf → Triple 𝓤 (𝓣.C g) PartOf → (fn : Fn) → IsCall fn f g → Meets 𝓛 T.signature (WpFn 𝓤 H 𝓣.C 𝓣.Λ fn) (closing 𝓛 T k)
     meets shown 𝓣 f g known-outcome known-part fn is =
         walk_Meets 𝓛 T hs (params.goes 𝓛 ss ps) k (WpFn 𝓤 H 𝓣.C 𝓣.Λ fn) (WpFn-mono 𝓤 H 𝓛.laws 𝓣 fn)
         (walked 𝓛 T hs k (WpFn 𝓤 H 𝓣.C 𝓣.Λ fn) (λ κs. params.spells (types_at ss κs) (ps κs)) (λ κs. params.all_tell (types_at ss κs) (ps κs))
@@ -213,9 +213,9 @@ module _ {M : Type 1} {𝓤 : Ura M} (𝓛 : Logic 𝓤) (𝓜 : Model 𝓤 𝓛
         (via 𝓤 _ (fact_i 𝓤 (Told κs a o × Cut κs a b) (emp 𝓤) (e, e')) (shown κs a h (at_exit T κs a (params.finished κs ss (ps κs) a)) o b))) !)))
 
     -- fn is the code of the call c, and γ says what the calls in it mean
-    pub hands : (γ : Means) (c : Name) (fn : Fn) → Closed 𝓤 H (tables 𝓤 H 𝓜 𝓡 γ).C (tables 𝓤 H 𝓜 𝓡 γ).Λ c fn
-        → (f : Name) (r : Routine) → γ f ≡ r → Triple 𝓤 (𝓡.run r) OutcomeOf
-        → (g : Name) (s : Routine) → γ g ≡ s → Triple 𝓤 (𝓡.run s) PartOf
+    pub hands : (γ : Means) (c : Callee) (fn : Fn) → Closed 𝓤 H (tables 𝓤 H 𝓜 𝓡 γ).C (tables 𝓤 H 𝓜 𝓡 γ).Λ c fn
+        → (f : Callee) (r : Routine) → γ f ≡ r → Triple 𝓤 (𝓡.run r) OutcomeOf
+        → (g : Callee) (s : Routine) → γ g ≡ s → Triple 𝓤 (𝓡.run s) PartOf
         → Shown → IsCall fn f g → Meets 𝓛 T.signature (𝓡.run (γ c)) (closing 𝓛 T k)
     unfolding tables_of
     hands γ c fn closed f r means-f met-f g s means-g met-g shown is =

@@ -30,5 +30,5 @@ pub record Pair (P : NamedLft → RattleType) (O Q : RattleType) : Type 2 where
   pub made : (a : NamedLft) → O.Denot → Bor (List Q.Denot) → (P a).Denot
   pub fst : (a : NamedLft) → (P a).Denot → O.Denot
   pub snd : (a : NamedLft) → (P a).Denot → Bor (List Q.Denot)
-  pub makes : (a : NamedLft) (o : O.Denot) (b : Bor (List Q.Denot)) (w : Val) → (P a).own (made a o b) (w ∷ []) ≡ both O (ShrSlice a.mir a.lft Q) o b w
-  pub takes : (a : NamedLft) (r : (P a).Denot) (w : Val) → (P a).own r (w ∷ []) ≡ both O (ShrSlice a.mir a.lft Q) (fst a r) (snd a r) w
+  pub makes : (a : NamedLft) (o : O.Denot) (b : Bor (List Q.Denot)) (w : Val) → (P a).own_val (made a o b) (w ∷ []) ≡ both O (ShrSlice a.mir a.lft Q) o b w
+  pub takes : (a : NamedLft) (r : (P a).Denot) (w : Val) → (P a).own_val r (w ∷ []) ≡ both O (ShrSlice a.mir a.lft Q) (fst a r) (snd a r) w

@@ -10,7 +10,7 @@ use mathlib.Core.List.{List, [], ◌∷◌}
 use Prim.Native.Nat.{ℕ, suc, ◌<◌, ◌^◌}
 use seplogic.Ra.Ura.{Ura}
 use lib.ListN.{length}
-use mir.Syntax.{Name, Sym, Lifetime, named, erased, mut, Ty, ty_ref, field, deref, place, copy, rv_opd, addr_of, aggregate, Body, seq, assign, return, call, Local, local, value_local, Fn}
+use mir.Syntax.{Callee, Sym, Lifetime, named, erased, mut, Ty, ty_ref, field, deref, place, copy, rv_opd, addr_of, aggregate, Body, seq, assign, return, call, Local, local, value_local, Fn}
 use mir.Val.{Val}
 use base.Logic.{SProp, ent, sep, ex, emp, via, fst∗, id⊢}
 use base.Fml.{Fml, ftrue}
@@ -29,10 +29,10 @@ use denote.RattleType.{RattleType, Denots, Valss, mirs, flat, owns}
 use denote.Exit.{Kept, yes, Last, left}
 use denote.Laws.{Is, Ises, Spells, Tellss, shows, valss, Typed, all_Typed}
 use denote.Memory.{pointee}
-use denote.Ref.{NamedLft, MutBor}
+use denote.Ref.{NamedLft, Bor, MutBor}
 use denote.Signature.{Slot, named_lft, plain, mut_slice_of, shr_slice_of, type_at, types_at}
 use denote.Signature.Struct.{are_all, takes}
-use denote.Slice.{slice_ty, slice_val, mut_slice_vals, mut_slice_Tells}
+use denote.Slice.{slice_ty, slice_val, shr_slice_vals, shr_slice_Tells, mut_slice_vals, mut_slice_Tells}
 use denote.Steps.{only, peeks, heard, nothing}
 use denote.Struct.Struct.{Shape, Struct, Struct-Tells}
 use denote.Triple.Statement.{Contract, Triple}
@@ -44,7 +44,7 @@ use denote.Triple.Spec.{triple_of, Meets}
 use denote.Triple.Table.{entered, cited, run_framed}
 use denote.Triple.Walked.{says, Stay, Stays, has_of, walk_of, ends_at, walked, walk_Meets}
 use Rattle.handed.proofs.Locals.{homes, places, copies, past, alloc_all, pass_all, free_all, reads_second, past-walks}
-use Rattle.handed.proofs.Data.{Data, Fits, fits, slice, part-ty}
+use Rattle.handed.proofs.Data.{Data, Fits, fits, slice-fits, part-ty}
 use Rattle.handed.proofs.Params as params
 use Rattle.handed.proofs.Structs.{Pair, pair, two, two_fits}
 
@@ -58,7 +58,7 @@ declared τs result ε ν σ τ =
     local result value_local ∷ local (lent (named 0) ε) value_local ∷ homes τs (local (pair ν σ τ) value_local ∷ local (ty_ref erased mut ε) value_local ∷ local (lent erased ε) value_local ∷ local σ value_local ∷ local τ value_local ∷ [])
 
 -- what follows the first call
-abbrev rest : List Ty → Ty → Name → Body
+abbrev rest : List Ty → Ty → Callee → Body
 rest τs ε g =
     seq (assign (place (suc (past 1 τs)) []) (addr_of (place 1 (field 0 ∷ deref ε ∷ []))))
     (seq (assign (place (suc (past 2 τs)) []) (aggregate (copy (place (suc (past 1 τs)) []) ∷ copy (place 1 (field 1 ∷ [])) ∷ [])))
@@ -66,11 +66,11 @@ rest τs ε g =
     (seq (assign (place (suc (past 4 τs)) []) (rv_opd (copy (place (suc (past 0 τs)) (field 1 ∷ [])))))
     (seq (call g (copy (place (suc (past 2 τs)) []) ∷ copy (place (suc (past 3 τs)) []) ∷ copy (place (suc (past 4 τs)) []) ∷ []) (place 0 [])) return))))
 
-abbrev code : List Ty → Ty → Name → Name → Body
+abbrev code : List Ty → Ty → Callee → Callee → Body
 code τs ε f g = seq (call f (copies 2 τs) (place (suc (past 0 τs)) [])) (rest τs ε g)
 
 -- The walk knows of the first function that from P it gives the struct of u y and v y for some y, with Q y beside it, and of the second that from Q y it gives what the function is to give.
-module _ {M : Type 1} {𝓤 : Ura M} (𝓛 : Logic 𝓤) (C : Calls 𝓤 𝓛.H) (Λ : Loops 𝓤 𝓛.H) (fm : FmC 𝓤 𝓛.H 𝓛.laws C) (f g : Name)
+module _ {M : Type 1} {𝓤 : Ura M} (𝓛 : Logic 𝓤) (C : Calls 𝓤 𝓛.H) (Λ : Loops 𝓤 𝓛.H) (fm : FmC 𝓤 𝓛.H 𝓛.laws C) (f g : Callee)
     (τs : List Ty) (vs : List Val) (are : Typed τs vs) (result ε : Ty) (ν : Sym) (σ τ : Ty) (at : ℕ × ℕ) (n : ℕ) (short : n < 2 ^ 64)
     (Y : Type 0) (u v : Y → Val) (u-fits : (y : Y) → Fits σ (u y)) (v-fits : (y : Y) → Fits τ (v y))
     (P : SProp 𝓤) (Q : Y → SProp 𝓤) (Kf : Val → SProp 𝓤)
@@ -141,7 +141,7 @@ module _ {M : Type 1} {𝓤 : Ura M} (𝓛 : Logic 𝓤) (𝓜 : Model 𝓤 𝓛
   open 𝓛 use {H, A}
 
   abbrev Handed : (n : ℕ) → Lfts n → Shares n → RattleType → Val → SProp 𝓤
-  Handed n κs qs P w = H.⇛ (ex 𝓤 (λ (r : P.Denot). sep 𝓤 (toks 𝓛 n κs qs) (sem 𝓛 (P.own r (w ∷ [])))))
+  Handed n κs qs P w = H.⇛ (ex 𝓤 (λ (r : P.Denot). sep 𝓤 (toks 𝓛 n κs qs) (sem 𝓛 (P.own_val r (w ∷ [])))))
 
   -- from the tokens and what the parameters own, the routine f gives a value of P and the tokens
   abbrev Hands : Routine → (n : ℕ) → Lfts n → Shares n → (Ts : List RattleType) → Denots Ts → Valss Ts → RattleType → Type 1
@@ -161,8 +161,8 @@ module _ {M : Type 1} {𝓤 : Ura M} (𝓛 : Logic 𝓤) (𝓜 : Model 𝓤 𝓛
       via 𝓤 (sep 𝓤 (𝓡.run f vs met) (emp 𝓤))
       (qed 𝓛 (raw entry ∷ []) ∵ use0 𝓛 (raw needed) required $ move ! (1 ∷ 0 ∷ []) $ use2 𝓛 (raw (𝓡.run f vs met)) (known ((κs, qs, bounds, a, vss), h)) $ frame ! $ nothing ! $ done !)
       (run_framed 𝓤 H 𝓜 𝓡 f vs met (Handed T.signature.lifetimes κs qs P) (emp 𝓤) (λ w.
-      qed 𝓛 (later (some (λ (r : P.Denot). (raw tokens ⊛ ‵ (P.own r (w ∷ []))) ⊛ raw (ensured 𝓛 T c κs a h r))) ∷ ‵ ftrue ∷ []) ∵
-      updating ! $ await ! tt $ pick ! (λ r. split ! $ at_once ! $ show ! (λ (r' : P.Denot). sep 𝓤 tokens (sem 𝓛 (P.own r' (w ∷ [])))) r $ split ! $ keep ! (0 ∷ 1 ∷ []) $ done !)))
+      qed 𝓛 (later (some (λ (r : P.Denot). (raw tokens ⊛ ‵ (P.own_val r (w ∷ []))) ⊛ raw (ensured 𝓛 T c κs a h r))) ∷ ‵ ftrue ∷ []) ∵
+      updating ! $ await ! tt $ pick ! (λ r. split ! $ at_once ! $ show ! (λ (r' : P.Denot). sep 𝓤 tokens (sem 𝓛 (P.own_val r' (w ∷ [])))) r $ split ! $ keep ! (0 ∷ 1 ∷ []) $ done !)))
 
   module _ (m : ℕ) (E : RattleType) {R O Q : RattleType} {P : NamedLft → RattleType} (result : Data R) (outcome : Data O) (struct : Pair P O Q) (ν : Sym) (ss : List (Slot (suc (suc m)))) (ps : params.Params ss)
       (Said : (κs : Lfts 2) → Args (ForFields E R O Q).signature κs → R.Denot → Type 0) (k : Clauses 𝓤 (ForTaking m E R ss)) where
@@ -182,11 +182,11 @@ module _ {M : Type 1} {𝓤 : Ura M} (𝓛 : Logic 𝓤) (𝓜 : Model 𝓤 𝓛
 
     -- the contract k says of the result what the second function says, whatever the fields are
     abbrev Shown : Type 1
-    Shown = (κs : Lfts (suc (suc m))) (a : Args T.signature κs) (h : (k κs a).ghost) (e : AtExit T κs) (o : O.Denot) (b : MutBor (List Q.Denot)) (r : R.Denot)
+    Shown = (κs : Lfts (suc (suc m))) (a : Args T.signature κs) (h : (k κs a).ghost) (e : AtExit T κs) (o : O.Denot) (b : Bor (List Q.Denot)) (r : R.Denot)
         → ent 𝓤 (fact 𝓤 (Said (front m κs) (a.0, (o, (b, tt))) r)) ((k κs a).ensures h r e)
 
     -- fn is such a function, of f and g
-    abbrev IsTaking : Fn → Name → Name → Type 0
+    abbrev IsTaking : Fn → Callee → Callee → Type 0
     IsTaking fn f g = (κs : Lfts (suc (suc m))) → ◌≡◌ {A = List Local × Body} (fn.locals, fn.body)
         (declared (mirs (types_at ss κs)) result.ty (pointee E.written) ν outcome.ty (part-ty erased Q), code (mirs (types_at ss κs)) (pointee E.written) f g)
 
@@ -199,7 +199,7 @@ module _ {M : Type 1} {𝓤 : Ura M} (𝓛 : Logic 𝓤) (𝓜 : Model 𝓤 𝓛
       s = slice_val x.ref_ptr (length x.now)
 
       abbrev Lent : Fml
-      Lent = ((buffer (suc m) E).row κs).own x (s ∷ [])
+      Lent = ((buffer (suc m) E).row κs).own_val x (s ∷ [])
 
       abbrev Ended-at : Last (((buffer (suc m) E).row κs).exit yes) x → Fml
       Ended-at = left (((buffer (suc m) E).row κs).exit yes) x
@@ -220,12 +220,12 @@ module _ {M : Type 1} {𝓤 : Ura M} (𝓛 : Logic 𝓤) (𝓜 : Model 𝓤 𝓛
       abbrev t₂ : SProp 𝓤
       t₂ = toks 𝓛 m κs.1.1 qs.1.1
 
-      ends : (o : O.Denot) (b : MutBor (List Q.Denot)) (r : R.Denot) (w : Val) (last : Last (((buffer (suc m) E).row κs).exit yes) x) → Said (front m κs) (x, (o, (b, tt))) r
-          → ent 𝓤 (⋆ 𝓛 (raw t₀ ∷ raw t₁ ∷ raw t₂ ∷ ‵ (Ended-at last) ∷ ‵ (R.own r (w ∷ [])) ∷ [])) (Post w)
+      ends : (o : O.Denot) (b : Bor (List Q.Denot)) (r : R.Denot) (w : Val) (last : Last (((buffer (suc m) E).row κs).exit yes) x) → Said (front m κs) (x, (o, (b, tt))) r
+          → ent 𝓤 (⋆ 𝓛 (raw t₀ ∷ raw t₁ ∷ raw t₂ ∷ ‵ (Ended-at last) ∷ ‵ (R.own_val r (w ∷ [])) ∷ [])) (Post w)
       ends o b r w last said =
           let ws = params.finished κs ss (ps κs) a in
           let e : AtExit T κs = at_exit T κs (x, a) (last, ws) in
-          qed 𝓛 (raw t₀ ∷ raw t₁ ∷ raw t₂ ∷ ‵ (Ended-at last) ∷ ‵ (R.own r (w ∷ [])) ∷ []) ∵
+          qed 𝓛 (raw t₀ ∷ raw t₁ ∷ raw t₂ ∷ ‵ (Ended-at last) ∷ ‵ (R.own_val r (w ∷ [])) ∷ []) ∵
           suffices ! _ (ends_at 𝓛 T hs k ((κs, qs, tt, (x, a), (s ∷ [], vss)), h) w r (last, ws) (tt, params.fits κs ss (all yes ss) a ws)) $
           use0 𝓛 (raw ((k κs (x, a)).ensures h r e)) (via 𝓤 _ (fact_i 𝓤 (Said (front m κs) (x, (o, (b, tt))) r) (emp 𝓤) said) (shown κs (x, a) h e o b r)) $
           use0 𝓛 (‵ (has_of κs ss (all yes ss) (params.dropped ss (all yes ss)) a ws vss)) (params.none-had 𝓛 κs ss (all yes ss) a ws vss) $
@@ -244,10 +244,13 @@ module _ {M : Type 1} {𝓤 : Ura M} (𝓛 : Logic 𝓤) (𝓜 : Model 𝓤 𝓛
 
       -- the struct as a type of its two fields, their values, and their machine values
       abbrev S : Shape
-      S = record { name = ν; args = []; fields = O ∷ B ∷ [] }
+      S = record { name = ν; args = []; types = []; fields = O ∷ B ∷ [] }
 
-      abbrev ds : params.Datas (O ∷ B ∷ [])
-      ds = (outcome, (slice (named 1) κs.1.0 Q, tt))
+      abbrev sp : Spells (O ∷ B ∷ [])
+      sp = ((λ o. outcome.val o ∷ []), (shr_slice_vals, tt))
+
+      abbrev tl : Tellss (O ∷ B ∷ []) (Ises (O ∷ B ∷ [])) sp
+      tl = (outcome.tells, (shr_slice_Tells (named 1) κs.1.0 Q, tt))
 
       abbrev fields : D → Denots (O ∷ B ∷ [])
       fields r = (struct.fst own-lft r, (struct.snd own-lft r, tt))
@@ -256,10 +259,10 @@ module _ {M : Type 1} {𝓤 : Ura M} (𝓛 : Logic 𝓤) (𝓜 : Model 𝓤 𝓛
       u r = outcome.val (struct.fst own-lft r)
 
       abbrev v : D → Val
-      v r = (slice (named 1) κs.1.0 Q).val (struct.snd own-lft r)
+      v r = slice_val (struct.snd own-lft r).ref_ptr (length (struct.snd own-lft r).now)
 
       abbrev Fields : D → Fml
-      Fields r = owns (O ∷ B ∷ []) (fields r) (valss (O ∷ B ∷ []) (params.spells (O ∷ B ∷ []) ds) (fields r))
+      Fields r = owns (O ∷ B ∷ []) (fields r) (valss (O ∷ B ∷ []) sp (fields r))
 
       -- a struct that was handed back, and what stands beside the parameters once it is known
       abbrev Y : Type 0
@@ -273,14 +276,12 @@ module _ {M : Type 1} {𝓤 : Ura M} (𝓛 : Logic 𝓤) (𝓜 : Model 𝓤 𝓛
 
       parts : (w : Val) → ent 𝓤 (sep 𝓤 (Handed (suc m) κs.1 qs.1 (P own-lft) w) (sep 𝓤 t₀ (sem 𝓛 Lent))) (Parted w)
       parts w =
-          let sp : Spells (O ∷ B ∷ []) = params.spells (O ∷ B ∷ []) ds in
-          let tl : Tellss (O ∷ B ∷ []) (Ises (O ∷ B ∷ [])) sp = params.all_tell (O ∷ B ∷ []) ds in
-          qed 𝓛 (later (some (λ (r : D). raw (toks 𝓛 (suc m) κs.1 qs.1) ⊛ ‵ ((P own-lft).own r (w ∷ [])))) ∷ (raw t₀ ⊛ ‵ Lent) ∷ []) ∵
+          qed 𝓛 (later (some (λ (r : D). raw (toks 𝓛 (suc m) κs.1 qs.1) ⊛ ‵ ((P own-lft).own_val r (w ∷ [])))) ∷ (raw t₀ ⊛ ‵ Lent) ∷ []) ∵
           updating ! $ await ! tt $ pick ! (λ r. split ! $ move ! (1 ∷ []) $
-          use1 𝓛 (‵ ((Struct S).own_val (fields r) (w ∷ []))) (subst (λ (X : Fml). ent 𝓤 (sem 𝓛 ((P own-lft).own r (w ∷ []))) (sem 𝓛 X)) (struct.takes own-lft r w) (id⊢ 𝓤 _)) $
+          use1 𝓛 (‵ ((Struct S).own_val (fields r) (w ∷ []))) (subst (λ (X : Fml). ent 𝓤 (sem 𝓛 ((P own-lft).own_val r (w ∷ []))) (sem 𝓛 X)) (struct.takes own-lft r w) (id⊢ 𝓤 _)) $
           peeks ! (Struct S) (Is (Struct S)) (shows 𝓛 (Struct S)) (fields r) (w ∷ []) (λ is.
           let are = are_all S sp tl (fields r) (w ∷ []) is in
-          let fit : Fits outcome.ty (u r) × Fits (part-ty erased Q) (v r) = (fits outcome 𝓛 (struct.fst own-lft r) (u r) are.0, fits (slice erased κs.1.0 Q) 𝓛 (struct.snd own-lft r) (v r) are.1.0) in
+          let fit : Fits outcome.ty (u r) × Fits (part-ty erased Q) (v r) = (fits outcome 𝓛 (struct.fst own-lft r) (u r) are.0, slice-fits erased κs.1.0 Q 𝓛 (struct.snd own-lft r) (v r) are.1.0) in
           use1 𝓛 (‵ (Fields r)) (takes 𝓛 S sp tl (fields r) (w ∷ [])) $
           at_once ! $ show ! (λ (y : Y). sep 𝓤 (Mid y) (fact 𝓤 (w ≡ two (u y.0) (v y.0)))) (r, fit) $ says ! (ap only (Struct-Tells S sp tl (fields r) (w ∷ []) is)) $
           -- [what the fields own; the tokens; the buffer's token, and what it owns]
@@ -313,7 +314,7 @@ module _ {M : Type 1} {𝓤 : Ura M} (𝓛 : Logic 𝓤) (𝓜 : Model 𝓤 𝓛
       took : (r : D) (w : Val) → ent 𝓤 (sep 𝓤 (FieldsOf.post (passed r) w) t₂) (Taken w)
       took r w =
           let c : Clauses 𝓤 F = FieldsSay 𝓤 E R O Q Said in
-          qed 𝓛 (later (some (λ (z : R.Denot). ((raw t₀ ⊛ raw t₁ ⊛ ‵ ftrue) ⊛ ‵ (R.own z (w ∷ []))) ⊛ raw (ensured 𝓛 F c (front m κs) (to r) tt z))) ∷ raw t₂ ∷ []) ∵
+          qed 𝓛 (later (some (λ (z : R.Denot). ((raw t₀ ⊛ raw t₁ ⊛ ‵ ftrue) ⊛ ‵ (R.own_val z (w ∷ []))) ⊛ raw (ensured 𝓛 F c (front m κs) (to r) tt z))) ∷ raw t₂ ∷ []) ∵
           updating ! $ await ! tt $ pick ! (λ z. split ! $ move ! (1 ∷ []) $
           use1 𝓛 (some (λ (ws : Lasts F (front m κs) (to r)). ‵ (lasts F (front m κs) (to r) ws) ⊛ raw (fact 𝓤 (Said (front m κs) (to r) z)))) (id⊢ 𝓤 _) $ pick ! (λ ws. split ! $ move ! (1 ∷ []) $ heard ! (Said (front m κs) (to r) z) (λ said.
           fsplit ! $ move ! (1 ∷ []) $ drop ! $
@@ -331,7 +332,7 @@ module _ {M : Type 1} {𝓤 : Ura M} (𝓛 : Logic 𝓤) (𝓜 : Model 𝓤 𝓛
           group ! 4 $ use1 𝓛 (raw (FieldsOf.pre (passed r))) (asked r) $ use1 𝓛 (raw (𝓡.run g vs (FieldsOf.post (passed r)))) (known (passed r)) $ done !)
           (run_framed 𝓤 H 𝓜 𝓡 g vs (FieldsOf.post (passed r)) Taken t₂ (took r))
 
-      runs_so : (𝓣 : Tables 𝓤 H) (f g : Name) → ent 𝓤 entry (𝓣.C f (flat Ts vss) Parted) → ((y : Y) → ent 𝓤 (Mid y) (𝓣.C g (s ∷ u y.0 ∷ v y.0 ∷ []) Taken))
+      runs_so : (𝓣 : Tables 𝓤 H) (f g : Callee) → ent 𝓤 entry (𝓣.C f (flat Ts vss) Parted) → ((y : Y) → ent 𝓤 (Mid y) (𝓣.C g (s ∷ u y.0 ∷ v y.0 ∷ []) Taken))
           → length x.now < 2 ^ 64 → Typed (mirs Ts) (flat Ts vss) → (fn : Fn) → IsTaking fn f g → ent 𝓤 entry (WpFn 𝓤 H 𝓣.C 𝓣.Λ fn (s ∷ flat Ts vss) Post)
       runs_so 𝓣 f g first second short are fn is =
           qed 𝓛 (raw entry ∷ []) ∵ enter ! 𝓣.C 𝓣.Λ fn (s ∷ flat Ts vss) Post $
@@ -340,10 +341,10 @@ module _ {M : Type 1} {𝓤 : Ura M} (𝓛 : Logic 𝓤) (𝓜 : Model 𝓤 𝓛
           Y (λ y. u y.0) (λ y. v y.0) (λ y. y.1.0) (λ y. y.1.1) entry Mid Post first second !
 
     -- fn is the code of c, and γ says what the calls in it mean
-    pub takes-apart : (γ : Means) (c : Name) (fn : Fn) → Closed 𝓤 H (tables 𝓤 H 𝓜 𝓡 γ).C (tables 𝓤 H 𝓜 𝓡 γ).Λ c fn
-        → (f : Name) (r : Routine) → γ f ≡ r
+    pub takes-apart : (γ : Means) (c : Callee) (fn : Fn) → Closed 𝓤 H (tables 𝓤 H 𝓜 𝓡 γ).C (tables 𝓤 H 𝓜 𝓡 γ).Λ c fn
+        → (f : Callee) (r : Routine) → γ f ≡ r
         → ((κs : Lfts (suc (suc m))) (qs : Shares (suc (suc m))) (a : Denots (types_at ss κs)) (vss : Valss (types_at ss κs)) → Hands r (suc m) κs.1 qs.1 (types_at ss κs) a vss (P (named_lft (suc m) 0 tt κs.1)))
-        → (g : Name) (s' : Routine) → γ g ≡ s' → Triple 𝓤 (𝓡.run s') FieldsOf → Shown → IsTaking fn f g → Meets 𝓛 T.signature (𝓡.run (γ c)) (closing 𝓛 T k)
+        → (g : Callee) (s' : Routine) → γ g ≡ s' → Triple 𝓤 (𝓡.run s') FieldsOf → Shown → IsTaking fn f g → Meets 𝓛 T.signature (𝓡.run (γ c)) (closing 𝓛 T k)
     unfolding tables_of
     takes-apart γ c fn closed f r means-f hands g s' means-g known shown is =
         let 𝓣 : Tables 𝓤 H = tables_of 𝓤 H 𝓜 (tables 𝓤 H 𝓜 𝓡 γ) in

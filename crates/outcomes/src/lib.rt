@@ -1,4 +1,7 @@
 // What calls ask that are lent a table alone.
+
+#![tactic(auto)]
+
 ghost use Rattle.std.specs.Prelude.{◌≡◌};
 ghost use Rattle.paper.specs.Refusals.{first_of, times_asks, first_asks};
 ghost use Rattle.outcomes.specs.Shared.{deadlines_asks};

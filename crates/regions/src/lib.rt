@@ -1,4 +1,7 @@
 // The condition that refusal 11 asks, shared by all calls: the regions of a table.
+
+#![tactic(auto)]
+
 ghost use Rattle.std.specs.Prelude.{◌≡◌, ◌+◌, ◌<◌, ◌≤◌, ◌^◌, length, get_or};
 ghost use Rattle.paper.specs.Vocabulary.{every};
 ghost use Rattle.paper.specs.Numbers.{most_tasks, most_words, rec};
