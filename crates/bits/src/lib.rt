@@ -1,4 +1,6 @@
 // Packed fields: a field of any width got and put, and a list of fields put.
+#![tactic(auto)]
+
 ghost use Rattle.std.specs.Prelude.{◌≡◌, ◌+◌, ◌-◌, ◌*◌, ◌/◌, ◌%◌, ◌<◌, ◌≤◌, ◌^◌, length, get_or};
 ghost use Rattle.paper.specs.Bits.{field, put_field, put_fields};
 ghost use Rattle.bits.specs.Fields.{total, with_bits};

@@ -1,4 +1,6 @@
 // The first stage of reading: what is asked of the head, the plate and the length. Only what passes is unpacked (reader).
+#![tactic(auto)]
+
 ghost use Rattle.std.specs.Prelude.{◌≡◌};
 ghost use Rattle.paper.specs.Refusals.{first_of};
 ghost use Rattle.file_head.specs.Asks.{head_asks};

@@ -1,5 +1,7 @@
 // The last region of a task, handed back: one word of the list that the task's regions are a part of, never a copy. As the other
 // parts it comes in three calls: the outcome alone, the bare part (empty where the call is turned away), and both from one call.
+#![tactic(auto)]
+
 ghost use Rattle.std.specs.Prelude.{◌≡◌, length};
 ghost use Rattle.paper.specs.Answers.{regions_outcome};
 ghost use Rattle.parts.specs.Parts.{IsPart};

@@ -1,4 +1,6 @@
 // Where things stand in a file, and what its head says.
+#![tactic(auto)]
+
 ghost use Rattle.std.specs.Prelude.{◌≡◌, ◌+◌, ◌*◌, ◌<◌, ◌≤◌, ◌^◌, length};
 ghost use Rattle.paper.specs.File.{is_edition, edition_in, cabinet_in, line_in, tasks_in, words_in, record_size, record_at, word_at, file_length};
 

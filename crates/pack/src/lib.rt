@@ -1,4 +1,6 @@
 // The parts of a cabinet file that stand before its seal: the head, the records and the region words.
+#![tactic(auto)]
+
 ghost use Rattle.std.specs.Prelude.{◌≡◌, [], ◌∷◌, ◌+◌, ◌*◌, ◌<◌, ◌≤◌, ◌^◌, length, replicate, take, drop};
 ghost use Rattle.paper.specs.Numbers.{most_tasks, most_words};
 ghost use Rattle.paper.specs.Bits.{put_field, put_fields};

@@ -1,4 +1,4 @@
--- A promise allows one part: what it holds, and where it lies. (Only the proofs' own name of the reference is left open.)
+-- A promise allows one part: what it holds, and where it lies. (A reference is no more than these.)
 use mathlib.Core.Path.{◌≡◌, sym, ◌∙◌}
 use mathlib.Core.List.{List}
 use Prim.Native.Nat.{ℕ}

@@ -1,5 +1,5 @@
 -- What a part handed back is: its contents, and where it lies in the caller's own memory. A copy, or a part of another list, is none, even where its contents are the same.
--- A reference is where it points (a block of memory and an offset in bytes), a name of the proofs' own, and what it refers to now.
+-- A reference is where it points (a block of memory and an offset in bytes), and what it refers to now.
 use Rattle.std.specs.Prelude.{ℕ, ◌+◌, ◌*◌, ◌≡◌, cond, List}
 use Rattle.std.specs.Borrow.{Bor}
 use Rattle.paper.specs.Regions.{Part, part_of, in_cabinet_list}

@@ -1,5 +1,7 @@
 // The parts handed back: a record, a task's regions, a name. Each is a part of what the caller lent, never a copy.
 // Each comes in three calls: the outcome alone, the bare part (empty where the call is turned away), and both from one call.
+#![tactic(auto)]
+
 ghost use Rattle.std.specs.Prelude.{◌≡◌, cond, ◌&&◌, ◌+◌, ◌-◌, ◌*◌, ◌≤◌, leb, length};
 ghost use Rattle.paper.specs.Numbers.{most_tasks, rec};
 ghost use Rattle.paper.specs.Regions.{list_of, in_cabinet_list, name_list, name_start, trimmed};

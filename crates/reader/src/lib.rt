@@ -1,4 +1,6 @@
 // Reading a cabinet file: the refusals in the paper's order, the table, and the region words.
+#![tactic(auto)]
+
 ghost use Rattle.std.specs.Prelude.{◌≡◌, ◌++◌, ◌≤◌, length, drop};
 ghost use Rattle.paper.specs.File.{edition_in, tasks_in, words_in};
 ghost use Rattle.paper.specs.Refusals.{first_of, file_asks};

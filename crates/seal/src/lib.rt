@@ -1,4 +1,6 @@
 // The seal of a file: made, asked and put. Callers know it by seal_of alone.
+#![tactic(auto)]
+
 mod table;
 
 ghost use Rattle.std.specs.Prelude.{◌≡◌, true, ◌+◌, ◌<◌, ◌≤◌, length};

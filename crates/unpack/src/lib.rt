@@ -1,4 +1,6 @@
 // What a file of known size says: its records, its region words, and whether its spare bits are clear.
+#![tactic(auto)]
+
 ghost use Rattle.std.specs.Prelude.{◌≡◌, ◌+◌, eqb, length};
 ghost use Rattle.paper.specs.Vocabulary.{every};
 ghost use Rattle.paper.specs.Numbers.{zero_record};

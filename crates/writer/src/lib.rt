@@ -1,4 +1,6 @@
 // Writing a cabinet file.
+#![tactic(auto)]
+
 ghost use Rattle.std.specs.Prelude.{◌≡◌, ◌<◌, ◌≤◌, length};
 ghost use Rattle.paper.specs.Numbers.{most_tasks, most_words};
 ghost use Rattle.paper.specs.File.{file_length, file_of};
