@@ -1,4 +1,7 @@
 // What the test of fixed preemption points looks at of a task's regions: the longest and the last.
+
+#![tactic(auto)]
+
 ghost use Rattle.std.specs.Prelude.{◌≡◌, ◌+◌, ◌<◌, ◌^◌, get_or};
 ghost use Rattle.paper.specs.Vocabulary.{max_to};
 ghost use Rattle.paper.specs.Points.{longest_region, last_region};

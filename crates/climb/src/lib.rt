@@ -1,4 +1,7 @@
 // The least solution of the one equation that all of the analysis solves, over columns of numbers.
+
+#![tactic(auto)]
+
 ghost use Rattle.std.specs.Prelude.{◌≡◌, cond, ◌+◌, ◌*◌, ◌≤◌, ◌<◌, ltb};
 ghost use Rattle.paper.specs.Vocabulary.{ceil_div};
 ghost use Rattle.paper.specs.Numbers.{most_ticks, horizon};
@@ -9,7 +12,7 @@ use columns::{Numbers, Tasks};
 use paper::Time;
 
 // x = base + work(limit, x + edge) - off. L, S and F are the least x of such an equation.
-#[derive(Drop)]
+#[derive(Clone, Copy)]
 pub struct Equation {
     pub limit: u64,
     pub base: u64,

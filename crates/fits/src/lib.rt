@@ -1,4 +1,7 @@
 // Whether regions fit lengths.
+
+#![tactic(auto)]
+
 ghost use Rattle.std.specs.Prelude.{◌≡◌, ◌+◌, ◌≤◌, ◌<◌, ◌^◌, pos, get_or};
 ghost use Rattle.std.specs.Int.Signed.{le_z};
 ghost use Rattle.paper.specs.Vocabulary.{every};

@@ -1,4 +1,7 @@
 // When the jobs of a task run: its active period, and the start and finish of each job in it.
+
+#![tactic(auto)]
+
 ghost use Rattle.std.specs.Prelude.{◌≡◌, cond, ◌&&◌, ◌-◌, ◌<◌, ◌≤◌, max, leb, ltb};
 ghost use Rattle.paper.specs.Numbers.{most_tasks, horizon};
 ghost use Rattle.paper.specs.Analysis.{blocking, level_of, start_sum, start_of, finish_of};
@@ -10,7 +13,7 @@ use columns::{Numbers, Tasks};
 use paper::Time;
 
 // Where a task stands: its number i, for how long, b, it is blocked, its priority and its threshold.
-#[derive(Drop)]
+#[derive(Clone, Copy)]
 pub struct Stand {
     pub i: usize,
     pub b: u64,
@@ -19,7 +22,7 @@ pub struct Stand {
 }
 
 // When a job runs: its start S and its finish F, or neither at or below the horizon.
-#[derive(Drop)]
+#[derive(Clone, Copy)]
 pub enum Span {
     Ends(u64, u64),
     Beyond,

@@ -1,4 +1,7 @@
 // Tolerances, lengths and the region check.
+
+#![tactic(auto)]
+
 ghost use Rattle.std.specs.Prelude.{◌≡◌, cond, [], ◌∷◌, ◌≤◌, ◌<◌, leb, pos, ◌+ℤ◌};
 ghost use Rattle.paper.specs.Vocabulary.{lowest};
 ghost use Rattle.paper.specs.Numbers.{most_tasks, per_task, assigned};

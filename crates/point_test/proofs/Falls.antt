@@ -5,7 +5,6 @@ use mathlib.Core.Bool.{Bool, true, false, not}
 use native.Mathlib.Omega.{arith}
 use borrow.Author.Tests.{leb-true, le-leb, lt-leb}
 use lib.Dec.{T, leb, ltb, le→leb}
-use lib.Signed.{◌≤ℤ◌}
 use Rattle.paper.specs.Vocabulary.{lowest}
 use Rattle.paper.specs.Numbers.{Assignment}
 use Rattle.paper.specs.Analysis.{Tasks, before, load}

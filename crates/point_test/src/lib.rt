@@ -1,4 +1,7 @@
 // The test of fixed preemption points for one task, over columns of numbers.
+
+#![tactic(auto)]
+
 ghost use Rattle.std.specs.Prelude.{◌≡◌, cond, ◌+◌, ◌-◌, ◌<◌, ◌≤◌, ltb, get_or};
 ghost use Rattle.paper.specs.Vocabulary.{max_to};
 ghost use Rattle.paper.specs.Numbers.{most_tasks, most_ticks};

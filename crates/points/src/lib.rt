@@ -1,5 +1,8 @@
 // The test of fixed preemption points, for firmware that yields only where a region ends. It is sufficient only: a task that does
 // not pass is not shown to be in time, and may be all the same.
+
+#![tactic(auto)]
+
 ghost use Rattle.std.specs.Prelude.{◌≡◌, false, ◌≤◌, replicate};
 ghost use Rattle.paper.specs.Numbers.{most_tasks, rec, per_task};
 ghost use Rattle.paper.specs.Analysis.{tasks_of};

@@ -1,4 +1,7 @@
 // Response times and the pass test, over columns of numbers.
+
+#![tactic(auto)]
+
 ghost use Rattle.std.specs.Prelude.{◌≡◌, cond, ◌+◌, ◌<◌, ◌≤◌, ltb, replicate};
 ghost use Rattle.paper.specs.Numbers.{most_tasks, horizon, per_task};
 ghost use Rattle.paper.specs.Answers.{no_time, times_answer};

@@ -12,7 +12,7 @@ use Rattle.paper.proofs.Signed.{sub_is}
 use Rattle.paper.proofs.Extremes.{by-test}
 
 pub read_back : (z : ℤ) → mag z < 2 ^ 63 → to_z w64 (of_z w64 z) ≡ z
-read_back z h = to_z-of_z (record { sfits = h })
+read_back z h = to_z-of_z {w = w64} (record { sfits = h })
 
 -- what a call gave is read back as what it promised
 pub kept : (z : ℤ) {v : ℤ} → mag z < 2 ^ 63 → z ≡ v → to_z w64 (of_z w64 z) ≡ v

@@ -1,4 +1,7 @@
 // The tolerances of the tasks whose numbers stand in columns.
+
+#![tactic(auto)]
+
 ghost use Rattle.std.specs.Prelude.{◌≡◌, ◌+◌, ◌≤◌, ◌<◌, min, pos};
 ghost use Rattle.paper.specs.Numbers.{most_ticks, per_task};
 ghost use Rattle.paper.specs.Lengths.{tolerance};
@@ -12,7 +15,7 @@ use paper::MOST_TASKS;
 pub type Ticks = [i64; MOST_TASKS];
 
 // One of the differences that a tolerance is the largest of: `at` less `need`, which may be below zero.
-#[derive(Drop)]
+#[derive(Clone, Copy)]
 struct Slack {
     at: u64,
     need: u64,
