@@ -1,4 +1,7 @@
 // The listing of passing assignments: the first row, and the first after a given row.
+
+#![tactic(auto)]
+
 ghost use Rattle.std.specs.Prelude.{suc, length, take};
 ghost use Rattle.paper.specs.Analysis.{tasks_of};
 ghost use Rattle.paper.specs.Answers.{FirstSays, NextSays};

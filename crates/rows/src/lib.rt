@@ -1,4 +1,7 @@
 // The numbers of a row, at the front of an array that has room for the longest row.
+
+#![tactic(auto)]
+
 ghost use Rattle.std.specs.Prelude.{◌≡◌, ◌++◌, suc, ◌+◌, ◌≤◌, ◌<◌, length, take, drop, get_or};
 ghost use Rattle.paper.specs.Numbers.{most_tasks, per_task};
 ghost use Rattle.paper.specs.Rows.{row_size, place_of, row_holds};

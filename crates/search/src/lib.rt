@@ -1,4 +1,7 @@
 // The search by digits: the first passing row from a candidate on.
+
+#![tactic(auto)]
+
 ghost use Rattle.std.specs.Prelude.{◌≡◌, true, suc, length, take};
 ghost use Rattle.paper.specs.Numbers.{most_tasks};
 ghost use Rattle.paper.specs.Rows.{row_size};
@@ -30,7 +33,7 @@ fn hopeless(n: usize, y: &Tasks, digits: &Digits, pos: usize) -> bool
     !rows::fits(n, digits, pos)
 }
 
-#[derive(Drop)]
+#[derive(Clone, Copy)]
 pub struct Found {
     pub digits: Digits,
     pub row: bool,
