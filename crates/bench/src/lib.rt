@@ -1,12 +1,15 @@
 // The calls, for the programs in other languages that measure their time and their stack. A table comes as a request has it; a
 // slice is two parameters there, its start and its length. Where a call is turned away, the answer is the refusal's number.
-// Only those programs link this crate: `bench_passes` has a `requires`, which nothing checks on the other side.
+// Those programs link `bench_c`, which makes these calls.
+#![tactic(auto)]
+
 mod bit_by_bit;
 
 ghost use Rattle.std.specs.Prelude.{◌*◌, ◌≤◌};
 ghost use Rattle.paper.specs.Numbers.{horizon};
 ghost use Rattle.columns.specs.Columns.{tasks_by, assigned_by, Ranged, Placed};
 
+pub use bit_by_bit::bench_seal_bits;
 use columns::{Numbers, Tasks};
 use paper::{
     Cabinet, FitAnswer, HORIZON, Line, MOST_TASKS, Outcome, PointVerdict, Response, RowAnswer,

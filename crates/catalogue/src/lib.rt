@@ -1,10 +1,12 @@
 // A catalogue as a person writes it: region lengths in decimal, one to a line or with blanks between them.
+#![tactic(auto)]
+
 ghost use Rattle.fronts.specs.Front.{Front};
 
 // The most words that the records of a file can name: first and count are at most 127.
 pub const MOST_NAMED: usize = 254;
 
-#[derive(Drop)]
+#[derive(Clone, Copy)]
 pub struct Catalogue {
     // So many words stand at the front of the list.
     pub words: usize,
@@ -14,7 +16,7 @@ pub struct Catalogue {
     pub wrong: usize,
 }
 
-#[derive(Drop)]
+#[derive(Clone, Copy)]
 struct Scan {
     words: usize,
     line: usize,

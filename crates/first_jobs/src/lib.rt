@@ -1,6 +1,8 @@
 // How many jobs a table has, and the first of them of which something doesn't hold: it is late, has a region above its length,
 // is not shown by the test of fixed preemption points, has a jitter, or finds the catalogue ending before its regions.
 // specs/Firsts.antt says which job that is.
+#![tactic(auto)]
+
 ghost use Rattle.std.specs.Prelude.{◌+◌, ◌<◌, ◌≤◌, min, ◌≡◌, not, leb, eqb};
 ghost use Rattle.paper.specs.Vocabulary.{lowest};
 ghost use Rattle.paper.specs.Numbers.{most_tasks, rec};
@@ -22,7 +24,7 @@ pub fn jobs_of(t: Table) -> usize
 
 // What is asked of a job: that it keeps its deadline, that none of its regions is above its length, that its jitter is 0, that it
 // passes the test of fixed preemption points.
-#[derive(Drop)]
+#[derive(Clone, Copy)]
 pub enum Asked {
     Deadline,
     Regions,

@@ -1,4 +1,6 @@
 // The front of a lent list: a number of its elements, at most all of them, so that `&s[..n]` can be lent without more.
+#![tactic(auto)]
+
 ghost use Rattle.std.specs.Prelude.{◌≤◌};
 ghost use Rattle.fronts.specs.Front.{Front};
 

@@ -1,4 +1,6 @@
 // A refusal by the paper's number, for a program that prints it or a caller in another language.
+#![tactic(auto)]
+
 ghost use Rattle.std.specs.Prelude.{◌≡◌};
 ghost use Rattle.paper.specs.Refusals.{number_of};
 

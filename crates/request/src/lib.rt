@@ -1,5 +1,7 @@
 // The pieces of a request's body, and a plate, big-endian. Past the end every byte reads as 0: a request is whole exactly when
 // its last piece ends where the body does, since no piece that lies past the end can.
+#![tactic(auto)]
+
 ghost use Rattle.std.specs.Prelude.{◌+◌, ◌<◌, ◌≤◌, ◌^◌};
 ghost use Rattle.fronts.specs.Front.{Front};
 ghost use Rattle.paper.specs.Numbers.{most_tasks};

@@ -40,20 +40,20 @@ fn first_of<'a>(rs: [Record; MOST_TASKS], n: usize, cabinet: &'a [u8], house: &'
     0
 }
 
-pub fn tell<'a>(rs: [Record; MOST_TASKS], n: usize, cabinet: &'a [u8], house: &'a [u8])
+pub fn tell<'a, R: Eprint>(
+    rt: &R,
+    rs: [Record; MOST_TASKS],
+    n: usize,
+    cabinet: &'a [u8],
+    house: &'a [u8],
+)
     requires { n ≤ most_tasks }
 {
     let job = first_of(rs, n, cabinet, house);
     if job == 0 {
         return;
     }
-    io::write_all(
-        libc::STDERR_FILENO,
-        b"the name list ends before the name of job ",
-    );
-    io::print_decimal(libc::STDERR_FILENO, job as u64);
-    io::write_all(
-        libc::STDERR_FILENO,
-        b"; without a name a job is shown by its number\n",
+    let _ = eprintln!(rt;
+        "the name list ends before the name of job {job}; without a name a job is shown by its number"
     );
 }

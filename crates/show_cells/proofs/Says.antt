@@ -13,7 +13,6 @@ use Rattle.paper.specs.Vocabulary.{lowest}
 use Rattle.paper.specs.declared.Time.{Time}
 use Rattle.paper.specs.declared.Time.TheVariants.{At, Beyond}
 use Rattle.cells.specs.declared.Cell.{Cell}
-use Rattle.cells.specs.declared.Cell.TheVariants as Cell
 use Rattle.show_facts.specs.Facts.{job_of}
 use Rattle.show_cells.specs.Cells.{place_cell, slack_cell, ticks_cell, column_stands}
 use Rattle.first_jobs.specs.Firsts.{jobs}

@@ -3,12 +3,10 @@ use Rattle.std.specs.Prelude.{ℕ, suc, ◌-◌, Bool, true, false, cond, List, 
 use Rattle.paper.specs.Answers.{when_done}
 use Rattle.paper.specs.declared.Outcome.{Outcome}
 use Rattle.paper.specs.declared.Time.{Time}
-use Rattle.paper.specs.declared.Time.TheVariants as Time
 use Rattle.paper.specs.declared.TicksAnswer.{TicksAnswer}
 use Rattle.paper.specs.declared.Shown.{Shown}
 use Rattle.paper.specs.declared.Shown.TheVariants.{NotShown, Passes}
 use Rattle.cells.specs.declared.Cell.{Cell}
-use Rattle.cells.specs.declared.Cell.TheVariants as Cell
 use Rattle.show_facts.specs.Facts.{job_of, time_at, shown_at}
 use Rattle.show_facts.specs.declared.Facts.{Facts}
 use Rattle.first_jobs.specs.Firsts.{first_jitter}

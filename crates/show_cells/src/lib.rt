@@ -1,5 +1,7 @@
 // The columns of a sheet's table: the cells of each job, and which column is left out. specs/Cells.antt says what each is by the
 // calls' answers.
+#![tactic(auto)]
+
 ghost use Rattle.std.specs.Prelude.{◌<◌, ◌≡◌, false, get_or};
 ghost use Rattle.paper.specs.Numbers.{most_tasks};
 ghost use Rattle.show_facts.specs.Facts.{time_at, shown_at};

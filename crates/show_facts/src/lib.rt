@@ -1,5 +1,7 @@
 // What the public calls say of a table: their answers side by side, and what they say of each job. specs/Facts.antt says what
 // each is by the calls' answers. What a sheet makes of it is for the crates above.
+#![tactic(auto)]
+
 ghost use Rattle.std.specs.Prelude.{◌<◌, ◌≡◌, false, get_or};
 ghost use Rattle.paper.specs.Vocabulary.{list_to};
 ghost use Rattle.paper.specs.Numbers.{most_tasks, rec};
@@ -10,7 +12,7 @@ use paper::{
     Time, TimesAnswer,
 };
 
-#[derive(Drop)]
+#[derive(Clone, Copy)]
 pub struct Facts {
     pub table: Table,
     pub times: TimesAnswer,

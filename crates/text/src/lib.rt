@@ -3,8 +3,15 @@
 //
 // The last place of the buffer stays free, so that the buffer's end, as a place, can say that a write failed. From there
 // nothing is put and nothing is written any more: no text ever follows a piece that was lost.
+#![tactic(auto)]
+
 ghost use Rattle.std.specs.Prelude.{◌≡◌, ◌≤◌, eqb, length};
 ghost use Rattle.text.specs.Places.{Put, Written};
+
+use std::io::{Error, Write};
+
+// No error has more words.
+const MOST_TOLD: usize = 256;
 
 // One byte at `at`. Each function here answers the place after what it put.
 pub fn put(buf: &mut [u8], at: usize, b: u8) -> usize
@@ -60,29 +67,58 @@ pub fn lost(buf: &[u8], at: usize) -> bool
     at == buf.len()
 }
 
+// Says on a line of standard error what failed and why, in the system's words.
+pub fn fail<R: Eprint>(rt: &R, what: &str, error: Error) {
+    let mut told = [0u8; MOST_TOLD];
+    let reason = words_of(error, &mut told);
+    // Where this can't be written either, there is nobody left to tell.
+    let _ = eprintln!(rt; "{what}: {reason}");
+}
+
+// The words of an error, without the system's number that is printed behind them.
+fn words_of(error: Error, told: &mut [u8]) -> &str {
+    let size = told.len();
+    let mut rest = &mut *told;
+    let _ = write!(rest, "{error}");
+    let end = size.saturating_sub(rest.len());
+    match str::from_utf8(&told[..end]) {
+        Ok(all) => without_number(all),
+        Err(_) => "",
+    }
+}
+
+fn without_number(all: &str) -> &str {
+    match all.split_once(" (os error ") {
+        Some((words, _)) => words,
+        None => all,
+    }
+}
+
 // Writes out what stands in the buffer, and answers where to go on: at its start. Where the write fails it says so, and the
 // answer is the buffer's end, now and from then on.
-pub fn flush(buf: &[u8], at: usize) -> usize
+pub fn flush<R: Print + Eprint>(rt: &R, buf: &[u8], at: usize) -> usize
     requires { at ≤ length buf.now }
     ensures { Written (length buf.now) at result }
 {
     if at == buf.len() {
         return at;
     }
-    if io::write_all(libc::STDOUT_FILENO, &buf[..at]) {
-        return 0;
+    match rt.write_all(&buf[..at]) {
+        Ok(()) => 0,
+        Err(error) => {
+            fail(rt, "standard output", error);
+            buf.len()
+        }
     }
-    os::fail(b"standard output");
-    buf.len()
 }
 
 // Writes the buffer's front out where no more than `room` places are left, and answers where to go on.
-pub fn room(buf: &[u8], at: usize, room: usize) -> usize
+pub fn room<R: Print + Eprint>(rt: &R, buf: &[u8], at: usize, room: usize) -> usize
     requires { at ≤ length buf.now }
     ensures { Written (length buf.now) at result }
 {
     if buf.len() - at <= room {
-        return flush(buf, at);
+        return flush(rt, buf, at);
     }
     at
 }

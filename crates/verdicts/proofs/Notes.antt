@@ -24,7 +24,6 @@ use Rattle.paper.proofs.Lengths.{none_named, lowest-named}
 use Rattle.paper.proofs.Jitters.{answered-instants}
 use Rattle.verdicts.specs.Verdicts.{first_note}
 use Rattle.verdicts.specs.declared.Note.{Note}
-use Rattle.verdicts.specs.declared.Note.TheVariants as Note
 
 -- a list refuses with 16 of a record: its asks of another number don't apply, and the one of 16 names that record
 abbrev Names : ℕ → Outcome → Type 0

@@ -9,7 +9,6 @@ use Rattle.paper.specs.declared.FitAnswer.TheVariants as Answer
 use Rattle.show_facts.specs.declared.Facts.{Facts}
 use Rattle.first_jobs.specs.Firsts.{first_late, first_unfit, first_not_shown}
 use Rattle.verdicts.specs.declared.Note.{Note}
-use Rattle.verdicts.specs.declared.Note.TheVariants as Note
 use Rattle.verdicts.specs.declared.Deadlines.{Deadlines}
 use Rattle.verdicts.specs.declared.Deadlines.TheVariants.{Kept, Missed}
 use Rattle.verdicts.specs.declared.Fit.{Fit}

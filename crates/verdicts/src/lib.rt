@@ -1,4 +1,6 @@
 // The notes under the table, and the verdict. specs/Verdicts.antt says what each is by the calls' answers.
+#![tactic(auto)]
+
 ghost use Rattle.std.specs.Prelude.{◌≡◌};
 ghost use Rattle.verdicts.specs.Verdicts.{first_note, not_shown, deadlines_of, fit_of, verdict_of};
 
@@ -7,7 +9,7 @@ use paper::{FitAnswer, Outcome, Refusal};
 use show_facts::Facts;
 
 // Why there are dashes in the table: the first call that turned it away.
-#[derive(Drop)]
+#[derive(Clone, Copy)]
 pub enum Note {
     Times(Refusal),
     Tolerances(Refusal),
@@ -16,20 +18,20 @@ pub enum Note {
 }
 
 // Missed and TooLong hold the number of the first such job.
-#[derive(Drop)]
+#[derive(Clone, Copy)]
 pub enum Deadlines {
     Kept,
     Missed(usize),
 }
 
-#[derive(Drop)]
+#[derive(Clone, Copy)]
 pub enum Fit {
     Fitting,
     TooLong(usize),
     NotChecked,
 }
 
-#[derive(Drop)]
+#[derive(Clone, Copy)]
 pub enum Verdict {
     Checked(Deadlines, Fit),
     Unchecked,

@@ -1,4 +1,6 @@
 // What is said of the worst job of a task's active period. specs/WorstJobs.antt says what it is by the calls' answers.
+#![tactic(auto)]
+
 ghost use Rattle.std.specs.Prelude.{◌<◌, ◌≡◌};
 ghost use Rattle.paper.specs.Numbers.{most_tasks};
 ghost use Rattle.worst_jobs.specs.WorstJobs.{worst_by, worst_at};
@@ -7,7 +9,7 @@ use paper::{Outcome, Response, Time};
 use show_facts::Facts;
 
 // What is said of the worst job of a task's active period. The jobs in it count from 0.
-#[derive(Drop)]
+#[derive(Clone, Copy)]
 pub enum Worst {
     // Job 0 is the worst, and in time; or the response times were refused.
     Nothing,
