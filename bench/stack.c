@@ -9,7 +9,7 @@ typedef unsigned long size;
 int printf(const char *, ...);
 void exit(int);
 
-/* The core's calls (crates/bench): a slice is two parameters, its start and its length. */
+/* The core's calls (crates/bench_c): a slice is two parameters, its start and its length. */
 size bench_read(const byte *file, size file_len, word cabinet, unsigned short line, word *out, size out_len);
 size bench_write(const byte *table, size table_len, const word *own, size own_len, byte *out, size out_len);
 size bench_times(const byte *table, size table_len);
