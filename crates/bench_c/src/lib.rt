@@ -1,5 +1,6 @@
-// The calls of `bench` as a static library, for the programs in other languages that measure their time and their stack. Only
-// those link it: `bench_passes` has a `requires`, which nothing checks on the other side.
+// The calls of `bench` as a static library, for the programs in other languages that measure their time and their stack: a slice is
+// two parameters there, its start and its length. Only those programs link it: `bench_passes` has a `requires`, which nothing
+// checks on the other side.
 #![tactic(auto)]
 
 ghost use Rattle.columns.specs.Columns.{tasks_by, assigned_by, Ranged, Placed};
