@@ -153,7 +153,7 @@ pub enum Shown {
     Passes,
 }
 
-// An array of structs, as one of enums is not covered.
+// A struct around it, as around a response time: an array of enums was no field when the answers were settled.
 #[derive(Clone, Copy)]
 pub struct PointVerdict {
     pub verdict: Shown,
