@@ -1,6 +1,6 @@
 -- Types of data that can be copied, with one machine value for each value: what is asked of a parameter's type, and of the type of a struct's first field.
 --     Data R           `ty` is its MIR type, the machine value is a function of the value (val, tells), it is seen at exit as it was passed (still), and it is lawful and can be copied in every model
---     number, slice, declared      of an unsigned integer, of a `&[T]` (whose T has the laws of what is shared, `RowLaws`: the row itself has them no more), and of a declared struct or enum, by what its own module says of it
+--     number, slice, declared      of an unsigned integer, of a `&[T]` (whose T has the laws of what is shared, `RowLaws`), and of a declared struct or enum, by what its own module says of it
 --     part-ty          the MIR type of a `&[T]`
 --     Fits τ v         v may be stored in a local of the type τ.        fits      the machine value of data may
 -- The laws under a model assume `Logic`.

@@ -140,6 +140,7 @@ FieldsSay 𝓤 E R O Q Said κs a = record { ghost = Unit {0}; requires = λ _. 
 module _ {M : Type 1} {𝓤 : Ura M} (𝓛 : Logic 𝓤) (𝓜 : Model 𝓤 𝓛.H) (𝓡 : Running 𝓤 𝓛.H 𝓜) where
   open 𝓛 use {H, A}
 
+  -- some value of P, with w for its machine value, beside the tokens
   abbrev Handed : (n : ℕ) → Lfts n → Shares n → RattleType → Val → SProp 𝓤
   Handed n κs qs P w = H.⇛ (ex 𝓤 (λ (r : P.Denot). sep 𝓤 (toks 𝓛 n κs qs) (sem 𝓛 (P.own_val r (w ∷ [])))))
 

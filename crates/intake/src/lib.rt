@@ -1,5 +1,5 @@
-// Reading a whole input, and whether it was whole: `io::read_full` gives the same short count where the input ends and where
-// a read fails.
+// Reading as much of an input as there is room for, and whether it was whole: a short count alone doesn't tell an input that ends
+// from a read that fails.
 #![tactic(auto)]
 
 ghost use Rattle.io.specs.Counts.{IsPrefixLen};

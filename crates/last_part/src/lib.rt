@@ -16,7 +16,8 @@ pub fn last_outcome<'a>(t: Table, own: &'a [u32], catalogue: &'a [u32], number: 
     parts::regions_outcome(t, own, catalogue, number)
 }
 
-// The last of some words, as a part of them; where there are none, that.
+// The last of some words, as a part of them; where there are none, that. All behind the place before the end is one word, four
+// bytes wide.
 fn last_of<'a>(words: &'a [u32]) -> &'a [u32]
     ensures { IsPart words.entry 4 (last_of (length words.now)) result }
 {

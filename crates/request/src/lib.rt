@@ -20,7 +20,7 @@ pub const LONGEST_BODY: usize = 4096;
 pub const MOST_BODY_WORDS: usize = LONGEST_BODY / 4;
 
 // The longest body of a request of a kind: one number for all of them; a kind that is to have another gets it here. `ask` has
-// room for LONGEST_BODY bytes and would cut a longer body off, so no kind's limit lies above that. The number stands in the promise again, as a promise can't name a constant of the code.
+// room for LONGEST_BODY bytes and would cut a longer body off, so no kind's limit lies above that. The promise says the number itself.
 pub fn longest_body(_kind: u8) -> usize
     ensures { result ≤ 4096 }
 {

@@ -104,6 +104,7 @@ fn tolerance_of(n: usize, y: &Tasks, p: &Numbers, i: usize) -> Slack
     best
 }
 
+// Both numbers are far below 2 ^ 63, so the machine's difference is exact.
 fn signed(s: Slack) -> i64
     requires { (s.at ≤ most_ticks) × (s.need ≤ most_need) }
     ensures { result ≡ value_of s }
