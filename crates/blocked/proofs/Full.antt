@@ -6,9 +6,9 @@ use borrow.Author.Tests.{ne_eqb}
 use Rattle.paper.specs.Numbers.{horizon}
 use Rattle.paper.specs.Analysis.{Tasks, Standing, before, load, level_sum, level_of, worst_from, response}
 use Rattle.paper.specs.declared.Time.TheVariants.{Beyond}
-use Rattle.laws.proofs.Least.{fixed, least-beyond}
+use Rattle.laws.proofs.Least.{fixed, least_beyond}
 
-pub full-beyond : (y : Tasks) (s : Standing) (i : ℕ) → 1 ≤ s.b → ((x : ℕ) → x ≤ load y s.level (before y x)) → response y s i ≡ Beyond
+pub full_beyond : (y : Tasks) (s : Standing) (i : ℕ) → 1 ≤ s.b → ((x : ℕ) → x ≤ load y s.level (before y x)) → response y s i ≡ Beyond
 unfolding response worst_from level_of level_sum
-full-beyond y s i blocked full =
-    rw (least-beyond (fixed (level_sum y s)) 1 horizon (λ x _ _. ne_eqb x (level_sum y s x) (λ e. omega (arith, full x))))
+full_beyond y s i blocked full =
+    rw (least_beyond (fixed (level_sum y s)) 1 horizon (λ x _ _. ne_eqb x (level_sum y s x) (λ e. omega (arith, full x))))

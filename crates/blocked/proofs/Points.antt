@@ -25,12 +25,12 @@ use Rattle.paper.specs.declared.PointVerdict.{PointVerdict}
 use Rattle.paper.specs.declared.Shown.TheVariants.{NotShown, Passes}
 use Rattle.paper.specs.declared.Outcome.TheVariants.{Done}
 use Rattle.paper.proofs.Asks.{met, clear}
-use Rattle.paper.proofs.Lengths.{Tolerable, lowest-zero}
-use Rattle.paper.proofs.Points.{Held, all-regions-say, Point, passes-means}
-use Rattle.laws.proofs.Sums.{sum-part, max-part, max-bound}
-use Rattle.laws.proofs.Lists.{per-task-at}
-use Rattle.laws.proofs.Tolerated.{tolerated-at}
-use Rattle.laws.proofs.Arrivals.{before-le, load-le}
+use Rattle.paper.proofs.Lengths.{Tolerable, lowest_zero}
+use Rattle.paper.proofs.Points.{Held, all_regions_say, Point, passes_means}
+use Rattle.laws.proofs.Sums.{sum_part, max_part, max_bound}
+use Rattle.laws.proofs.Lists.{per_task_at}
+use Rattle.laws.proofs.Tolerated.{tolerated_at}
+use Rattle.laws.proofs.Arrivals.{before_le, load_le}
 
 -- task i may be tested: its last region is a part of its cost, and its tolerance isn't below zero
 pub record Divided (y : Tasks) (a : Assignment) (g : Chunks) (i : ℕ) : Type 0 where
@@ -40,18 +40,18 @@ pub record Divided (y : Tasks) (a : Assignment) (g : Chunks) (i : ℕ) : Type 0 
 module _ (y : Tasks) (a : Assignment) (g : Chunks) (i : ℕ) (w : Divided y a g i) where
   -- no difference in the test falls below zero
   pub exact : (g.last i ≤ y.c i) × (y.j i + g.last i ≤ y.d i)
-  exact = let r = tolerated-at y a i w.tolerable.instant 0 w.tolerable.least in (w.last, omega (arith, w.last, r.1.high, r.2))
+  exact = let r = tolerated_at y a i w.tolerable.instant 0 w.tolerable.least in (w.last, omega (arith, w.last, r.1.high, r.2))
 
   -- A task whose tolerance is at least alpha passes: what lets it end in time lets its last region start in time.
-  pub tolerated-passes : pos (alpha y a g i) ≤ℤ tolerance y a i → points_pass y a g i ≡ true
+  pub tolerated_passes : pos (alpha y a g i) ≤ℤ tolerance y a i → points_pass y a g i ≡ true
   unfolding load before
-  tolerated-passes h = (passes-means y a g i).1 (by_cases (dec_le (alpha y a g i) 0) (λ (z : alpha y a g i ≤ 0). inl (omega arith)) (λ z. inr (early (omega arith))))
+  tolerated_passes h = (passes_means y a g i).1 (by_cases (dec_le (alpha y a g i) 0) (λ (z : alpha y a g i ≤ 0). inl (omega arith)) (λ z. inr (early (omega arith))))
     where
       early : 1 ≤ alpha y a g i → (t : ℕ) × Point y a i (g.last i) (alpha y a g i) t
       early some =
-          let r = tolerated-at y a i w.tolerable.instant (alpha y a g i) h in
+          let r = tolerated_at y a i w.tolerable.instant (alpha y a g i) h in
           let u = r.0 - g.last i in
-          let rises = load-le y (λ j. ltb (a.p j) (a.p i)) (before y u) (before y r.0) (λ j _. before-le y j u r.0 (omega arith)) in (
+          let rises = load_le y (λ j. ltb (a.p j) (a.p i)) (before y u) (before y r.0) (λ j _. before_le y j u r.0 (omega arith)) in (
             u,
             record { low = omega (arith, w.last, r.2); high = omega (arith, r.1.high); fits = omega (arith, w.last, r.2, rises) },
           )
@@ -82,8 +82,8 @@ module _ (t : Table) (own catalogue : List ℕ) (e : first_of (fit_asks t own ca
       let d = met (every t.n (λ k. leb (rec t.records k).deadline (rec t.records k).period)) _ _ u.1 in
       let z = clear (ltb 0 (lowest_below_zero y a)) _ _ d.1 in
       record {
-        held = all-regions-say t.records t.n own catalogue h.0;
-        tolerable = (lowest-zero y a).0 (omega (arith, ltb-false 0 (lowest_below_zero y a) z.0));
+        held = all_regions_say t.records t.n own catalogue h.0;
+        tolerable = (lowest_zero y a).0 (omega (arith, ltb-false 0 (lowest_below_zero y a) z.0));
       }
 
   pub divided : (i : ℕ) → i < t.n → Divided y a g i
@@ -93,33 +93,33 @@ module _ (t : Table) (own catalogue : List ℕ) (e : first_of (fit_asks t own ca
       let place : r.first + (r.count - 1) ≡ r.first + r.count - 1 = omega (arith, h.there) in
       let list = list_of r.source own catalogue in
       record {
-        last = rw (← place) (le_trans (sum-part r.count (λ k. get_or list (r.first + k) 0) (r.count - 1) (omega (arith, h.there))) (omega (arith, h.cost)));
+        last = rw (← place) (le_trans (sum_part r.count (λ k. get_or list (r.first + k) 0) (r.count - 1) (omega (arith, h.there))) (omega (arith, h.cost)));
         tolerable = answered.tolerable i l;
       }
 
   -- alpha is 0 exactly for the lowest task
-  pub alpha-zero : (i : ℕ) → (alpha y a g i ≡ 0) ↔ ((k : ℕ) → k < t.n → a.p k ≤ a.p i)
+  pub alpha_zero : (i : ℕ) → (alpha y a g i ≡ 0) ↔ ((k : ℕ) → k < t.n → a.p k ≤ a.p i)
   unfolding alpha
-  alpha-zero i = (
+  alpha_zero i = (
     λ z k l. by_cases (dec_le (a.p k) (a.p i)) (λ (h : a.p k ≤ a.p i). h) (λ h. absurd (lower z k l (omega arith))),
-    λ h. let m = max-bound t.n 0 (λ k. cond (ltb (a.p i) (a.p k)) (g.longest k) 0) (λ k l. rw (le-ltb (a.p i) (a.p k) (h k l)) (omega arith)) in omega arith,
+    λ h. let m = max_bound t.n 0 (λ k. cond (ltb (a.p i) (a.p k)) (g.longest k) 0) (λ k l. rw (le-ltb (a.p i) (a.p k) (h k l)) (omega arith)) in omega arith,
   )
     where
       lower : alpha y a g i ≡ 0 → (k : ℕ) → k < t.n → a.p i < a.p k → ⊥
       lower z k l h =
           let r = rec t.records k in
           let w = answered.held k l in
-          let part = rw (lt-ltb (a.p i) (a.p k) h) at (max-part t.n (λ k. cond (ltb (a.p i) (a.p k)) (g.longest k) 0) k l) in
-          let word = max-part r.count (λ i. get_or (list_of r.source own catalogue) (r.first + i) 0) 0 w.there in
+          let part = rw (lt-ltb (a.p i) (a.p k) h) at (max_part t.n (λ k. cond (ltb (a.p i) (a.p k)) (g.longest k) 0) k l) in
+          let word = max_part r.count (λ i. get_or (list_of r.source own catalogue) (r.first + i) 0) 0 w.there in
           omega (arith, part, word, (w.words 0 w.there).0)
 
   -- What the answer means: it says "passes" of a task exactly where alpha is 0 or there is a t.
-  pub answered-means : (i : ℕ) → i < t.n
+  pub answered_means : (i : ℕ) → i < t.n
       → ((get_or (points_answer t own catalogue).tasks i (verdict_for false)).verdict ≡ Passes) ↔ ((alpha y a g i ≡ 0) ⊎ ((u : ℕ) × Point y a i (g.last i) (alpha y a g i) u))
-  answered-means i l = (λ h. (passes-means y a g i).0 (shown (points_pass y a g i) (sym said ∙ h)), λ w. said ∙ rw ((passes-means y a g i).1 w))
+  answered_means i l = (λ h. (passes_means y a g i).0 (shown (points_pass y a g i) (sym said ∙ h)), λ w. said ∙ rw ((passes_means y a g i).1 w))
     where
       said : (get_or (points_answer t own catalogue).tasks i (verdict_for false)).verdict ≡ cond (points_pass y a g i) Passes NotShown
-      said = rw e (ap (λ (v : PointVerdict). v.verdict) (per-task-at t.n (λ k. verdict_for (points_pass y a g k)) (verdict_for false) (verdict_for false) i l))
+      said = rw e (ap (λ (v : PointVerdict). v.verdict) (per_task_at t.n (λ k. verdict_for (points_pass y a g k)) (verdict_for false) (verdict_for false) i l))
 
       shown : (b : Bool) → cond b Passes NotShown ≡ Passes → b ≡ true
       shown true h = refl

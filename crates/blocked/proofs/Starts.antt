@@ -10,9 +10,9 @@ use Rattle.paper.specs.Numbers.{horizon}
 use Rattle.paper.specs.Analysis.{Tasks, Standing, before, by, start_sum, start_of}
 use Rattle.paper.specs.declared.Time.TheVariants.{At}
 use Rattle.paper.proofs.Searched.{searched}
-use Rattle.laws.proofs.Arrivals.{by-is, load_part, load-less}
+use Rattle.laws.proofs.Arrivals.{by_is, load_part, load_less}
 use Rattle.laws.proofs.Least.{fixed, least_under}
-use Rattle.laws.proofs.Rising.{by_le, start-le}
+use Rattle.laws.proofs.Rising.{by_le, start_le}
 
 -- job k of task i, which stands at s, and a task j that counts in its start
 module _ (y : Tasks) (s : Standing) (i k : ℕ) (j : ℕ) (l : j < y.n) (cost : 1 ≤ y.c j) (period : 1 ≤ y.t j) (above : s.above j ≡ true) where
@@ -22,15 +22,15 @@ module _ (y : Tasks) (s : Standing) (i k : ℕ) (j : ℕ) (l : j < y.n) (cost : 
   arrives x h =
       omega (
         arith,
-        load-less y s.above (by y (x + 1)) (by y x) (λ j _. by_le y j x (x + 1) (omega arith)),
+        load_less y s.above (by y (x + 1)) (by y x) (λ j _. by_le y j x (x + 1) (omega arith)),
         load_part y s.above (λ j. by y (x + 1) j - by y x j) j l above,
         mul-pos {m = by y (x + 1) j - by y x j} (omega arith) cost,
       )
 
   -- the first job of j, asked for at 0, is in every sum
-  first-in : 1 ≤ start_sum y s i k 0
+  first_in : 1 ≤ start_sum y s i k 0
   unfolding start_sum by
-  first-in =
+  first_in =
       omega (
         arith,
         load_part y s.above (by y 0) j l above,
@@ -38,18 +38,18 @@ module _ (y : Tasks) (s : Standing) (i k : ℕ) (j : ℕ) (l : j < y.n) (cost : 
       )
 
   -- as many jobs of j have been asked for before S as by S
-  pub nothing-lost : (v : ℕ) → start_of y s i k ≡ At v → before y v j ≡ by y v j
+  pub nothing_lost : (v : ℕ) → start_of y s i k ≡ At v → before y v j ≡ by y v j
   unfolding start_of
-  nothing-lost v e =
+  nothing_lost v e =
       let f = start_sum y s i k in
-      go v (eqb-true v (f v) (searched (fixed f) 0 (horizon + 1) v e).hit) (least_under f 0 (horizon + 1) v (start-le y s i k) zero-le e)
+      go v (eqb-true v (f v) (searched (fixed f) 0 (horizon + 1) v e).hit) (least_under f 0 (horizon + 1) v (start_le y s i k) zero-le e)
     where
       go : (v : ℕ) → v ≡ start_sum y s i k v → ((x : ℕ) → 0 ≤ x → start_sum y s i k x ≤ x → v ≤ x) → before y v j ≡ by y v j
-      go zero e under = absurd (omega (arith, first-in))
+      go zero e under = absurd (omega (arith, first_in))
       go (suc u) e under =
           let n : suc u ≡ u + 1 = omega arith in
           let same = ap (start_sum y s i k) n in
-          rw (n, ← by-is y j period u)
+          rw (n, ← by_is y j period u)
           (⊎_elim
           (λ q. q)
           (λ h. absurd (omega (arith, under u zero-le (omega (arith, arrives u h)))))

@@ -17,6 +17,6 @@ pub found : {x y b : Bool} → x ≡ y → not x ≡ b → not y ≡ b
 found e h = rw (← e) h
 
 -- Two numbers of the file were found blank or not, and so was the plate.
-pub either-blank : {x y cabinet line : ℕ} {a b plate : Bool} → x ≡ cabinet → y ≡ line → a ≡ blank x y → b ≡ plate
+pub either_blank : {x y cabinet line : ℕ} {a b plate : Bool} → x ≡ cabinet → y ≡ line → a ≡ blank x y → b ≡ plate
     → (blank cabinet line || plate) ≡ (a || b)
-either-blank c l e f = rw (e, f, c, l)
+either_blank c l e f = rw (e, f, c, l)

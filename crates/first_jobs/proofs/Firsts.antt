@@ -6,7 +6,7 @@ use native.Mathlib.Numerals.{add-one}
 use native.Mathlib.Omega.{arith}
 use borrow.Author.Count.{below_more}
 use Rattle.paper.specs.Vocabulary.{lowest}
-use Rattle.paper.proofs.Extremes.{lowest-none, lowest-found}
+use Rattle.paper.proofs.Extremes.{lowest_none, lowest_found}
 
 -- the first k jobs pass
 pub record Passed (test : ℕ → Bool) (k : ℕ) : Type 0 where
@@ -20,7 +20,7 @@ module _ {test : ℕ → Bool} where
   one_more {k} p e t = record { passed = below_more (λ j. not (test j) ≡ false) k p.passed (rw e at t) }
 
   pub first_found : {k n : ℕ} {b : Bool} → Passed test k → k < n → b ≡ test k → not b ≡ true → k + 1 ≡ lowest n (λ j. not (test j))
-  first_found {k} {n} p h e t = add-one k ∙ sym (lowest-found (λ j. not (test j)) n k h (rw e at t) p.passed)
+  first_found {k} {n} p h e t = add-one k ∙ sym (lowest_found (λ j. not (test j)) n k h (rw e at t) p.passed)
 
   pub none_found : {k n : ℕ} → Passed test k → n ≤ k → 0 ≡ lowest n (λ j. not (test j))
-  none_found {k} {n} p h = sym (lowest-none (λ j. not (test j)) n (λ j l. p.passed j (omega arith)))
+  none_found {k} {n} p h = sym (lowest_none (λ j. not (test j)) n (λ j l. p.passed j (omega arith)))

@@ -1,7 +1,7 @@
 -- Types of data that can be copied, with one machine value for each value: what is asked of a parameter's type, and of the type of a struct's first field.
 --     Data R           `ty` is its MIR type, the machine value is a function of the value (val, tells), it is seen at exit as it was passed (still), and it is lawful and can be copied in every model
 --     number, slice, declared      of an unsigned integer, of a `&[T]` (whose T has the laws of what is shared, `RowLaws`), and of a declared struct or enum, by what its own module says of it
---     part-ty          the MIR type of a `&[T]`
+--     part_ty          the MIR type of a `&[T]`
 --     Fits τ v         v may be stored in a local of the type τ.        fits      the machine value of data may
 -- The laws under a model assume `Logic`.
 use mathlib.Core.Path.{◌≡◌, refl, subst}
@@ -47,12 +47,12 @@ number w = record {
   copied = λ 𝓛. uint_copy 𝓛 w;
 }
 
-abbrev pub part-ty : Lifetime → RattleType → Ty
-part-ty ℓ Q = slice_ty (ty_ref ℓ imm (pointee Q.written))
+abbrev pub part_ty : Lifetime → RattleType → Ty
+part_ty ℓ Q = slice_ty (ty_ref ℓ imm (pointee Q.written))
 
 abbrev pub slice : (ℓ : Lifetime) (κ : Lft) (Q : RattleType) → RowLaws Q → Data (ShrSlice ℓ κ Q)
 slice ℓ κ Q L = record {
-  ty = part-ty ℓ Q;
+  ty = part_ty ℓ Q;
   one = refl;
   val = λ x. slice_val x.ref_ptr (length x.now);
   tells = shr_slice_Tells ℓ κ Q;
@@ -77,8 +77,8 @@ declared F laws copy low = record {
 }
 
 -- the machine value of a `&[T]` may be stored, whatever is known of T
-pub slice-fits : (ℓ : Lifetime) (κ : Lft) (Q : RattleType) {M : Type 1} {𝓤 : Ura M} (𝓛 : Logic 𝓤) → (x : (ShrSlice ℓ κ Q).Denot) (v : Val) → Is (ShrSlice ℓ κ Q) x (v ∷ []) → Fits (part-ty ℓ Q) v
-slice-fits ℓ κ Q 𝓛 x v is = ((shr_slice_Lawful 𝓛 ℓ κ Q).typed x (v ∷ []) is).0
+pub slice_fits : (ℓ : Lifetime) (κ : Lft) (Q : RattleType) {M : Type 1} {𝓤 : Ura M} (𝓛 : Logic 𝓤) → (x : (ShrSlice ℓ κ Q).Denot) (v : Val) → Is (ShrSlice ℓ κ Q) x (v ∷ []) → Fits (part_ty ℓ Q) v
+slice_fits ℓ κ Q 𝓛 x v is = ((shr_slice_Lawful 𝓛 ℓ κ Q).typed x (v ∷ []) is).0
 
 pub fits : {R : RattleType} (d : Data R) {M : Type 1} {𝓤 : Ura M} (𝓛 : Logic 𝓤) → (x : R.Denot) (v : Val) → Is R x (v ∷ []) → Fits d.ty v
 fits d 𝓛 x v is = (subst (λ (τs : List Ty). Typed τs (v ∷ [])) d.one ((d.lawful 𝓛).typed x (v ∷ []) is)).0

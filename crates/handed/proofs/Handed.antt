@@ -42,7 +42,7 @@ use denote.Triple.Spec.{triple_of, Meets}
 use denote.Triple.Table.{entered, cited}
 use denote.Triple.Walked.{Stays, has_of, walk_of, ends_at, walked, walk_Meets}
 use Rattle.handed.proofs.Locals.{homes, copies, past, past_finds, alloc_all, pass_all, free_all, reads_all}
-use Rattle.handed.proofs.Data.{Data, Fits, fits, slice-fits, part-ty}
+use Rattle.handed.proofs.Data.{Data, Fits, fits, slice_fits, part_ty}
 use Rattle.handed.proofs.Params as params
 use Rattle.handed.proofs.Structs.{Pair, pair, two, two_fits}
 
@@ -77,7 +77,7 @@ module _ {M : Type 1} {𝓤 : Ura M} {𝓛 : Logic 𝓤} {K : Type 0} {Γ : List
 
 -- the result; the parameters; the outcome; the part. ν is the struct's name, σ the outcome's type, j the part's lifetime and Q the type of its elements
 abbrev declared : List Ty → Sym → Ty → ℕ → RattleType → List Local
-declared τs ν σ j Q = local (pair ν σ (part-ty (named j) Q)) value_local ∷ homes τs (local σ value_local ∷ local (part-ty erased Q) value_local ∷ [])
+declared τs ν σ j Q = local (pair ν σ (part_ty (named j) Q)) value_local ∷ homes τs (local σ value_local ∷ local (part_ty erased Q) value_local ∷ [])
 
 abbrev code : List Ty → Callee → Callee → Body
 code τs f g =
@@ -141,17 +141,17 @@ module _ {M : Type 1} {𝓤 : Ura M} (𝓛 : Logic 𝓤) (𝓜 : Model 𝓤 𝓛
         by ! (subst (λ (F : Fml). ent 𝓤 (sem 𝓛 (owns (O ∷ B ∷ []) (o, (b, tt)) (u ∷ [], (v ∷ [], tt)))) (sem 𝓛 F)) (sym (struct.makes (named_lft n j ok κs) o b (two u v)))
         (makes 𝓛 (O ∷ B ∷ []) (owns (O ∷ B ∷ []) (o, (b, tt))) (u ∷ [], (v ∷ [], tt))))
 
-    part-fits : (ℓ : Lifetime) (b : B.Denot) (v : Val) → Is B b (v ∷ []) → Fits (part-ty ℓ Q) v
-    part-fits ℓ = slice-fits ℓ (lft_at n j ok κs) Q 𝓛
+    part_fits : (ℓ : Lifetime) (b : B.Denot) (v : Val) → Is B b (v ∷ []) → Fits (part_ty ℓ Q) v
+    part_fits ℓ = slice_fits ℓ (lft_at n j ok κs) Q 𝓛
 
     walk : {K : Type 0} → K → Seq K 𝓛 (raw (toks 𝓛 n κs qs) ∷ ‵ (owns Ts a vss) ∷ [])
         (allocs (declared (mirs Ts) ν outcome.ty j Q) (λ E. params' E (flat Ts vss) (runs C Λ E (code (mirs Ts) f g) (at_ret E Kf))))
     walk t =
         let τs : List Ty = mirs Ts in
         let vs : List Val = flat Ts vss in
-        let result : Ty = pair ν outcome.ty (part-ty (named j) Q) in
+        let result : Ty = pair ν outcome.ty (part_ty (named j) Q) in
         alloc1 t (λ l₀. alloc_all t τs (λ bs. alloc1 t (λ l₁. alloc1 t (λ l₂.
-        let E : Env 𝓤 H = (outcome.ty, l₁) ∷ (part-ty erased Q, l₂) ∷ [] in
+        let E : Env 𝓤 H = (outcome.ty, l₁) ∷ (part_ty erased Q, l₂) ∷ [] in
         alloc0 t $ params1 t $ move t (4 ∷ []) $ pass_all t τs bs vs are E $ move t (7 ∷ 8 ∷ []) $
         -- [the tokens; what the parameters own; the parameters; room for the part; …; room for the outcome; …; room for the result; …]
         asks t fm (ForOutcome ss O) OutcomeSays known-outcome κs qs tt a vss tt (params.copies 𝓛 Ts (ps κs)) (id⊢ 𝓤 (emp 𝓤)) (Told κs a) (λ o e. id⊢ 𝓤 (fact 𝓤 (Told κs a o)))
@@ -161,9 +161,9 @@ module _ {M : Type 1} {𝓤 : Ura M} (𝓛 : Logic 𝓤) (𝓜 : Model 𝓤 𝓛
         asks t fm (ForPart ss O (Part n j ok Q)) PartSays known-part κs qs tt (o, a) (u ∷ [], vss) tt (params.copies 𝓛 (O ∷ Ts) (outcome, ps κs)) (fact_i 𝓤 (Told κs a o) (emp 𝓤) e) (Cut κs a) (λ b e'. id⊢ 𝓤 (fact 𝓤 (Cut κs a b)))
         (and_then t (load t (past_finds t 0 (result, l₀) τs bs E) (look t 5 refl)) (reads_all t (result, l₀) E τs bs vs are)) (λ v b e' is'.
         -- [what the part owns; the tokens; what the outcome and the parameters own; the parameters; room for the part; …; the outcome; …; room for the result; …]
-        land t (past_finds t 1 (result, l₀) τs bs E) (init t 4 refl (part-fits erased b v is')) $
+        land t (past_finds t 1 (result, l₀) τs bs E) (init t 4 refl (part_fits erased b v is')) $
         assigns t (agg t (and_then t (load t (past_finds t 0 (result, l₀) τs bs E) (look t 6 refl)) (and_then t (load t (past_finds t 1 (result, l₀) τs bs E) (look t 4 refl)) (no_more t))))
-        (from t (stop t)) (init t 8 refl (two_fits ν outcome.ty (part-ty (named j) Q) u v (fits outcome 𝓛 o u is) (part-fits (named j) b v is'))) $
+        (from t (stop t)) (init t 8 refl (two_fits ν outcome.ty (part_ty (named j) Q) u v (fits outcome 𝓛 o u is) (part_fits (named j) b v is'))) $
         returns t (look t 8 refl) $ forget t 8 refl $ move t (8 ∷ 9 ∷ []) $ free1 t $ move t (3 ∷ []) $ free_all t τs bs vs are E $
         -- [what the part owns; the tokens; what the outcome and the parameters own; the part; …; the outcome; …]
         forget t 5 refl $ move t (5 ∷ 6 ∷ []) $ free1 t $ forget t 3 refl $ move t (3 ∷ 4 ∷ []) $ free1 t $ free0 t $ by t (leaves o b u v e e')))))))
@@ -184,7 +184,7 @@ module _ {M : Type 1} {𝓤 : Ura M} (𝓛 : Logic 𝓤) (𝓜 : Model 𝓤 𝓛
         let ws = params.finished κs ss (ps κs) a in
         qed 𝓛 (raw (toks 𝓛 n κs qs) ∷ ‵ ((P (named_lft n j ok κs)).own_val r (v ∷ [])) ∷ []) ∵
         suffices ! _ (ends_at 𝓛 T hs k ((κs, qs, bounds, a, vss), h) v r ws (params.fits κs ss (all yes ss) a ws)) $
-        use0 𝓛 (raw ((k κs a).ensures h r (at_exit T κs a ws))) shown $ use0 𝓛 (‵ (has_of κs ss (all yes ss) hs a ws vss)) (params.none-had 𝓛 κs ss (all yes ss) a ws vss) $
+        use0 𝓛 (raw ((k κs a).ensures h r (at_exit T κs a ws))) shown $ use0 𝓛 (‵ (has_of κs ss (all yes ss) hs a ws vss)) (params.none_had 𝓛 κs ss (all yes ss) a ws vss) $
         -- [what is had of the parameters; the clause; the tokens; the struct]
         move ! (0 ∷ 3 ∷ []) $ join ! $ move ! (2 ∷ 0 ∷ []) $ join ! $ frame ! $ done !
 

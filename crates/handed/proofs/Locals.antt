@@ -3,7 +3,7 @@
 --     free τs bs           room for each.        held τs bs vs      each holds its value
 --     alloc_all, pass_all, free_all     the parameters are allocated, stored and freed
 --     copies i τs          the operands that read them, from local i on.        reads_all, reads_second      they give the values
---     past j τs            the local that is j after the last parameter.        past_finds, past-walks       where it is
+--     past j τs            the local that is j after the last parameter.        past_finds, past_walks       where it is
 -- Assumes `Logic`.
 use mathlib.Core.Path.{◌≡◌, refl, sym, subst}
 use mathlib.Core.List.{List, [], ◌∷◌}
@@ -64,9 +64,9 @@ module _ {M : Type 1} (𝓤 : Ura M) (H : Heap 𝓤) where
   first [] bs E = tt
   first (τ ∷ τs) bs E = (refl, next (τ, bs.0) (places τs bs.1 E) 0 τs bs.1 (first τs bs.1 E))
 
-  past-spot : (j : ℕ) (e : Ty × ℕ) (τs : List Ty) (bs : Blocks τs) (E : Env 𝓤 H) → spot_of 𝓤 H (e ∷ places τs bs E) (past j τs) ≡ spot_of 𝓤 H E j
-  past-spot j e [] bs E = refl
-  past-spot j e (τ ∷ τs) bs E = past-spot j (τ, bs.0) τs bs.1 E
+  past_spot : (j : ℕ) (e : Ty × ℕ) (τs : List Ty) (bs : Blocks τs) (E : Env 𝓤 H) → spot_of 𝓤 H (e ∷ places τs bs E) (past j τs) ≡ spot_of 𝓤 H E j
+  past_spot j e [] bs E = refl
+  past_spot j e (τ ∷ τs) bs E = past_spot j (τ, bs.0) τs bs.1 E
 
 module _ {M : Type 1} {𝓤 : Ura M} {𝓛 : Logic 𝓤} {K : Type 0} where
   open 𝓛 use {H}
@@ -96,20 +96,20 @@ module _ {M : Type 1} {𝓤 : Ura M} {𝓛 : Logic 𝓤} {K : Type 0} where
       fsplit t $ forget t 0 refl $ move t (1 ∷ []) $ fsplit t $ move t (2 ∷ 0 ∷ []) $ free1 t $ free_all t τs bs.1 vs ty.1 E $ s)
 
   -- evaluation changes nothing, so it may go on in a context that is the same taken apart
-  opd-under : {Γ Γ' : List (Item 𝓤)} {E : Env 𝓤 H} {x : Operand} {v : Val} → ent 𝓤 (⋆ 𝓛 Γ) (⋆ 𝓛 Γ') → ent 𝓤 (⋆ 𝓛 Γ') (⋆ 𝓛 Γ)
+  opd_under : {Γ Γ' : List (Item 𝓤)} {E : Env 𝓤 H} {x : Operand} {v : Val} → ent 𝓤 (⋆ 𝓛 Γ) (⋆ 𝓛 Γ') → ent 𝓤 (⋆ 𝓛 Γ') (⋆ 𝓛 Γ)
       → Opd K 𝓛 Γ' E x v → Opd K 𝓛 Γ E x v
-  opd-under {Γ} {Γ'} there back x = record { go = λ Kt h. via 𝓤 (⋆ 𝓛 Γ') there (x.go Kt (via 𝓤 (⋆ 𝓛 Γ) back h)) }
+  opd_under {Γ} {Γ'} there back x = record { go = λ Kt h. via 𝓤 (⋆ 𝓛 Γ') there (x.go Kt (via 𝓤 (⋆ 𝓛 Γ) back h)) }
 
-  opds-under : {Γ Γ' : List (Item 𝓤)} {E : Env 𝓤 H} {xs : List Operand} {vs : List Val} → ent 𝓤 (⋆ 𝓛 Γ) (⋆ 𝓛 Γ') → ent 𝓤 (⋆ 𝓛 Γ') (⋆ 𝓛 Γ)
+  opds_under : {Γ Γ' : List (Item 𝓤)} {E : Env 𝓤 H} {xs : List Operand} {vs : List Val} → ent 𝓤 (⋆ 𝓛 Γ) (⋆ 𝓛 Γ') → ent 𝓤 (⋆ 𝓛 Γ') (⋆ 𝓛 Γ)
       → Opds K 𝓛 Γ' E xs vs → Opds K 𝓛 Γ E xs vs
-  opds-under {Γ} {Γ'} there back xs = record { go = λ Kt h. via 𝓤 (⋆ 𝓛 Γ') there (xs.go Kt (via 𝓤 (⋆ 𝓛 Γ) back h)) }
+  opds_under {Γ} {Γ'} there back xs = record { go = λ Kt h. via 𝓤 (⋆ 𝓛 Γ') there (xs.go Kt (via 𝓤 (⋆ 𝓛 Γ) back h)) }
 
-  reads-from : K → (E : Env 𝓤 H) (i : ℕ) (τs : List Ty) (bs : Blocks τs) (vs : List Val) → Typed τs vs → Stand 𝓤 H E i τs bs → {Γ : List (Item 𝓤)}
+  reads_from : K → (E : Env 𝓤 H) (i : ℕ) (τs : List Ty) (bs : Blocks τs) (vs : List Val) → Typed τs vs → Stand 𝓤 H E i τs bs → {Γ : List (Item 𝓤)}
       → Opds K 𝓛 (‵ (held τs bs vs) ∷ Γ) E (copies i τs) vs
-  reads-from t E i [] bs [] ty st = no_more t
-  reads-from t E i [] bs (v ∷ vs) ty st = absurd ty
-  reads-from t E i (τ ∷ τs) bs [] ty st = absurd ty
-  reads-from t E i (τ ∷ τs) bs (v ∷ vs) ty st {Γ} =
+  reads_from t E i [] bs [] ty st = no_more t
+  reads_from t E i [] bs (v ∷ vs) ty st = absurd ty
+  reads_from t E i (τ ∷ τs) bs [] ty st = absurd ty
+  reads_from t E i (τ ∷ τs) bs (v ∷ vs) ty st {Γ} =
       let cell : Fml = fat full_share τ bs.0 zero v in
       let dies : Fml = fdies τ bs.0 in
       let others : Fml = held τs bs.1 vs in
@@ -117,11 +117,11 @@ module _ {M : Type 1} {𝓤 : Ura M} {𝓛 : Logic 𝓤} {K : Type 0} where
       let one : List (Item 𝓤) = ‵ cell ∷ ‵ (fsep dies others) ∷ Γ in
       let apart : List (Item 𝓤) = ‵ others ∷ ‵ cell ∷ ‵ dies ∷ Γ in
       and_then t
-      (opd-under {Γ = all} {Γ' = one} (qed 𝓛 all ∵ fsplit ! $ done !) (qed 𝓛 one ∵ fjoin ! $ done !)
+      (opd_under {Γ = all} {Γ' = one} (qed 𝓛 all ∵ fsplit ! $ done !) (qed 𝓛 one ∵ fjoin ! $ done !)
       (load t (from t (stop t)) (subst (λ (sp : Spot 𝓤 H). Reads K 𝓛 one sp.0 sp.1 sp.2 v) (sym st.0) (look t 0 refl))))
-      (opds-under {Γ = all} {Γ' = apart} (qed 𝓛 all ∵ fsplit ! $ move ! (1 ∷ []) $ fsplit ! $ move ! (1 ∷ 2 ∷ []) $ done !)
+      (opds_under {Γ = all} {Γ' = apart} (qed 𝓛 all ∵ fsplit ! $ move ! (1 ∷ []) $ fsplit ! $ move ! (1 ∷ 2 ∷ []) $ done !)
       (qed 𝓛 apart ∵ move ! (2 ∷ 0 ∷ []) $ fjoin ! $ move ! (1 ∷ 0 ∷ []) $ fjoin ! $ done !)
-      (reads-from t E (suc i) τs bs.1 vs ty.1 st.1))
+      (reads_from t E (suc i) τs bs.1 vs ty.1 st.1))
 
   -- the operands of a call, where the parameters are the context's third entry
   pub reads_all : K → (e : Ty × ℕ) (E : Env 𝓤 H) (τs : List Ty) (bs : Blocks τs) (vs : List Val) → Typed τs vs → {i j : Item 𝓤} {Γ : List (Item 𝓤)}
@@ -129,8 +129,8 @@ module _ {M : Type 1} {𝓤 : Ura M} {𝓛 : Logic 𝓤} {K : Type 0} where
   reads_all t e E τs bs vs ty {i} {j} {Γ} =
       let here : List (Item 𝓤) = i ∷ j ∷ ‵ (held τs bs vs) ∷ Γ in
       let ahead : List (Item 𝓤) = ‵ (held τs bs vs) ∷ i ∷ j ∷ Γ in
-      opds-under {Γ = here} {Γ' = ahead} (qed 𝓛 here ∵ move ! (2 ∷ []) $ done !) (qed 𝓛 ahead ∵ move ! (1 ∷ 2 ∷ []) $ done !)
-      (reads-from t (e ∷ places τs bs E) 1 τs bs vs ty (next 𝓤 H e (places τs bs E) 0 τs bs (first 𝓤 H τs bs E)))
+      opds_under {Γ = here} {Γ' = ahead} (qed 𝓛 here ∵ move ! (2 ∷ []) $ done !) (qed 𝓛 ahead ∵ move ! (1 ∷ 2 ∷ []) $ done !)
+      (reads_from t (e ∷ places τs bs E) 1 τs bs vs ty (next 𝓤 H e (places τs bs E) 0 τs bs (first 𝓤 H τs bs E)))
 
   -- the same where the parameters are the context's second entry, and two locals stand before them
   pub reads_second : K → (e e' : Ty × ℕ) (E : Env 𝓤 H) (τs : List Ty) (bs : Blocks τs) (vs : List Val) → Typed τs vs → {i : Item 𝓤} {Γ : List (Item 𝓤)}
@@ -138,15 +138,15 @@ module _ {M : Type 1} {𝓤 : Ura M} {𝓛 : Logic 𝓤} {K : Type 0} where
   reads_second t e e' E τs bs vs ty {i} {Γ} =
       let here : List (Item 𝓤) = i ∷ ‵ (held τs bs vs) ∷ Γ in
       let ahead : List (Item 𝓤) = ‵ (held τs bs vs) ∷ i ∷ Γ in
-      opds-under {Γ = here} {Γ' = ahead} (qed 𝓛 here ∵ move ! (1 ∷ []) $ done !) (qed 𝓛 ahead ∵ move ! (1 ∷ []) $ done !)
-      (reads-from t (e ∷ e' ∷ places τs bs E) 2 τs bs vs ty (next 𝓤 H e (e' ∷ places τs bs E) 1 τs bs (next 𝓤 H e' (places τs bs E) 0 τs bs (first 𝓤 H τs bs E))))
+      opds_under {Γ = here} {Γ' = ahead} (qed 𝓛 here ∵ move ! (1 ∷ []) $ done !) (qed 𝓛 ahead ∵ move ! (1 ∷ []) $ done !)
+      (reads_from t (e ∷ e' ∷ places τs bs E) 2 τs bs vs ty (next 𝓤 H e (e' ∷ places τs bs E) 1 τs bs (next 𝓤 H e' (places τs bs E) 0 τs bs (first 𝓤 H τs bs E))))
 
   -- a place in a local past the parameters, where two locals stand before them
-  pub past-walks : K → (j : ℕ) (e e' : Ty × ℕ) (τs : List Ty) (bs : Blocks τs) (E : Env 𝓤 H) {Γ : List (Item 𝓤)} {st : List PStep} {sp : Spot 𝓤 H}
+  pub past_walks : K → (j : ℕ) (e e' : Ty × ℕ) (τs : List Ty) (bs : Blocks τs) (E : Env 𝓤 H) {Γ : List (Item 𝓤)} {st : List PStep} {sp : Spot 𝓤 H}
       → Walks K 𝓛 Γ (e ∷ e' ∷ places τs bs E) (spot_of 𝓤 H E j) st sp → Finds K 𝓛 Γ (e ∷ e' ∷ places τs bs E) (place (suc (past j τs)) st) sp
-  past-walks t j e e' τs bs E {Γ} {st} {sp} w =
-      from t (subst (λ (at : Spot 𝓤 H). Walks K 𝓛 Γ (e ∷ e' ∷ places τs bs E) at st sp) (sym (past-spot 𝓤 H j e' τs bs E)) w)
+  past_walks t j e e' τs bs E {Γ} {st} {sp} w =
+      from t (subst (λ (at : Spot 𝓤 H). Walks K 𝓛 Γ (e ∷ e' ∷ places τs bs E) at st sp) (sym (past_spot 𝓤 H j e' τs bs E)) w)
 
   pub past_finds : K → (j : ℕ) (e : Ty × ℕ) (τs : List Ty) (bs : Blocks τs) (E : Env 𝓤 H) {Γ : List (Item 𝓤)}
       → Finds K 𝓛 Γ (e ∷ places τs bs E) (place (past j τs) []) (spot_of 𝓤 H E j)
-  past_finds t j e τs bs E {Γ} = subst (λ (sp : Spot 𝓤 H). Finds K 𝓛 Γ (e ∷ places τs bs E) (place (past j τs) []) sp) (past-spot 𝓤 H j e τs bs E) (from t (stop t))
+  past_finds t j e τs bs E {Γ} = subst (λ (sp : Spot 𝓤 H). Finds K 𝓛 Γ (e ∷ places τs bs E) (place (past j τs) []) sp) (past_spot 𝓤 H j e τs bs E) (from t (stop t))

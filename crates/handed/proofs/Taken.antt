@@ -2,7 +2,7 @@
 --     declared, code       the locals and the body of such a function.        walk      the walk through the code
 --     Hands                what the first function gives.        asks      a function that requires nothing gives it
 --     ForFields, FieldsSay the signature and the contract of the second function: it says `Said` of its parameters and the result
---     ForTaking            the signature of such a function.        takes-apart     it meets its contract
+--     ForTaking            the signature of such a function.        takes_apart     it meets its contract
 -- All that is known of the two functions is that each meets its contract. The lifetimes are the buffer's, the part's, and m others: the first function has all but the buffer's, and the part's is its first.
 -- `walk` assumes `Logic`, and that the table of calls is monotone under a frame; the rest is for every `Model` and every `Running`.
 use mathlib.Core.Path.{◌≡◌, refl, sym, ap, subst}
@@ -43,8 +43,8 @@ use denote.Triple.Clauses.{Ended, Clauses, AtExit, Lasts, at_exit, lasts, ensure
 use denote.Triple.Spec.{triple_of, Meets}
 use denote.Triple.Table.{entered, cited, run_framed}
 use denote.Triple.Walked.{says, Stay, Stays, has_of, walk_of, ends_at, walked, walk_Meets}
-use Rattle.handed.proofs.Locals.{homes, places, copies, past, alloc_all, pass_all, free_all, reads_second, past-walks}
-use Rattle.handed.proofs.Data.{Data, Fits, fits, slice-fits, part-ty}
+use Rattle.handed.proofs.Locals.{homes, places, copies, past, alloc_all, pass_all, free_all, reads_second, past_walks}
+use Rattle.handed.proofs.Data.{Data, Fits, fits, slice_fits, part_ty}
 use Rattle.handed.proofs.Params as params
 use Rattle.handed.proofs.Structs.{Pair, pair, two, two_fits}
 
@@ -92,15 +92,15 @@ module _ {M : Type 1} {𝓤 : Ura M} (𝓛 : Logic 𝓤) (C : Calls 𝓤 𝓛.H)
       calls_from t fm (raw P) vs _ first (reads_second t e₀ e₁ E τs bs vs are) (λ w.
       use1 𝓛 (later (some (λ (y : Y). raw (Q y) ⊛ raw (fact 𝓤 (w ≡ two (u y) (v y)))))) (id⊢ 𝓤 _) $ await t tt $ pick t (λ y. split t $ move t (1 ∷ []) $ heard t (w ≡ two (u y) (v y)) (λ is.
       regoal t (λ (x : Val). lands C Λ (e₀ ∷ e₁ ∷ places τs bs E) (place (suc (past 0 τs)) []) x (rest τs ε g) (at_ret (e₀ ∷ e₁ ∷ places τs bs E) Kf)) is refl $
-      land t (past-walks t 0 e₀ e₁ τs bs E (stop t)) (init t 10 refl (two_fits ν σ τ (u y) (v y) (u-fits y) (v-fits y))) $
-      assigns t (addr t (from t (fld t refl (hop t (look_in t 12 (sub t 0 refl (whole t))) (stop t))))) (past-walks t 1 e₀ e₁ τs bs E (stop t)) (init t 8 refl (tt, tt)) $
-      assigns t (agg t (and_then t (load t (past-walks t 1 e₀ e₁ τs bs E (stop t)) (look t 8 refl)) (and_then t (load t (from t (fld t refl (stop t))) (look_in t 12 (sub t 1 refl (whole t)))) (no_more t))))
-      (past-walks t 2 e₀ e₁ τs bs E (stop t)) (init t 6 refl (lent_fits erased)) $
-      assigns t (of_opd t (load t (past-walks t 0 e₀ e₁ τs bs E (fld t refl (stop t))) (look_in t 10 (sub t 0 refl (whole t))))) (past-walks t 3 e₀ e₁ τs bs E (stop t)) (init t 4 refl (u-fits y)) $
-      assigns t (of_opd t (load t (past-walks t 0 e₀ e₁ τs bs E (fld t refl (stop t))) (look_in t 10 (sub t 1 refl (whole t))))) (past-walks t 4 e₀ e₁ τs bs E (stop t)) (init t 2 refl (v-fits y)) $
+      land t (past_walks t 0 e₀ e₁ τs bs E (stop t)) (init t 10 refl (two_fits ν σ τ (u y) (v y) (u-fits y) (v-fits y))) $
+      assigns t (addr t (from t (fld t refl (hop t (look_in t 12 (sub t 0 refl (whole t))) (stop t))))) (past_walks t 1 e₀ e₁ τs bs E (stop t)) (init t 8 refl (tt, tt)) $
+      assigns t (agg t (and_then t (load t (past_walks t 1 e₀ e₁ τs bs E (stop t)) (look t 8 refl)) (and_then t (load t (from t (fld t refl (stop t))) (look_in t 12 (sub t 1 refl (whole t)))) (no_more t))))
+      (past_walks t 2 e₀ e₁ τs bs E (stop t)) (init t 6 refl (lent_fits erased)) $
+      assigns t (of_opd t (load t (past_walks t 0 e₀ e₁ τs bs E (fld t refl (stop t))) (look_in t 10 (sub t 0 refl (whole t))))) (past_walks t 3 e₀ e₁ τs bs E (stop t)) (init t 4 refl (u-fits y)) $
+      assigns t (of_opd t (load t (past_walks t 0 e₀ e₁ τs bs E (fld t refl (stop t))) (look_in t 10 (sub t 1 refl (whole t))))) (past_walks t 4 e₀ e₁ τs bs E (stop t)) (init t 2 refl (v-fits y)) $
       -- [Q y; the parameters; the second field; …; the first; …; the buffer lent again; …; its pointer; …; the struct; …; the buffer; …; room for the result; …]
       calls_from t fm (raw (Q y)) (slice_val at n ∷ u y ∷ v y ∷ []) _ (second y)
-      (and_then t (load t (past-walks t 2 e₀ e₁ τs bs E (stop t)) (look t 6 refl)) (and_then t (load t (past-walks t 3 e₀ e₁ τs bs E (stop t)) (look t 4 refl)) (and_then t (load t (past-walks t 4 e₀ e₁ τs bs E (stop t)) (look t 2 refl)) (no_more t)))) (λ x.
+      (and_then t (load t (past_walks t 2 e₀ e₁ τs bs E (stop t)) (look t 6 refl)) (and_then t (load t (past_walks t 3 e₀ e₁ τs bs E (stop t)) (look t 4 refl)) (and_then t (load t (past_walks t 4 e₀ e₁ τs bs E (stop t)) (look t 2 refl)) (no_more t)))) (λ x.
       use1 𝓛 (later (raw (Kf x) ⊛ raw (fact 𝓤 (Fits result x)))) (id⊢ 𝓤 _) $ await t tt $ split t $ move t (1 ∷ []) $ heard t (Fits result x) (λ ok.
       land t (from t (stop t)) (init t 14 refl ok) $ returns t (look t 14 refl) $ forget t 14 refl $ move t (14 ∷ 15 ∷ []) $ free1 t $ forget t 12 refl $ move t (12 ∷ 13 ∷ []) $ free1 t $
       move t (1 ∷ []) $ free_all t τs bs vs are E $
@@ -109,8 +109,8 @@ module _ {M : Type 1} {𝓤 : Ura M} (𝓛 : Logic 𝓤) (C : Calls 𝓤 𝓛.H)
       forget t 3 refl $ move t (3 ∷ 4 ∷ []) $ free1 t $ forget t 1 refl $ move t (1 ∷ 2 ∷ []) $ free1 t $ free0 t $ by t (id⊢ 𝓤 (Kf x)))))))))))))))
 
 -- what is had of a buffer that was given up: what says its last value
-abbrev given-up : {n : ℕ} (s : Slot n) (j : Kept) → Stay s j
-given-up s j = record { fit = λ κs x w. Unit {0}; has = λ κs x w vs. left ((s.row κs).exit j) x w }
+abbrev given_up : {n : ℕ} (s : Slot n) (j : Kept) → Stay s j
+given_up s j = record { fit = λ κs x w. Unit {0}; has = λ κs x w vs. left ((s.row κs).exit j) x w }
 
 -- a buffer of elements E, at the first of a signature's lifetimes
 abbrev buffer : (n : ℕ) → RattleType → Slot (suc n)
@@ -124,8 +124,8 @@ part Q = shr_slice_of (1 ∷ []) tt (plain (λ _. Q))
 abbrev front : (m : ℕ) → Lfts (suc (suc m)) → Lfts 2
 front m κs = (κs.0, (κs.1.0, tt))
 
-abbrev front-shares : (m : ℕ) → Shares (suc (suc m)) → Shares 2
-front-shares m qs = (qs.0, (qs.1.0, tt))
+abbrev front_shares : (m : ℕ) → Shares (suc (suc m)) → Shares 2
+front_shares m qs = (qs.0, (qs.1.0, tt))
 
 -- over the other parameters' slots, the types of the buffer's elements, of the result, of the first field and of the part's elements
 abbrev ForTaking : (m : ℕ) → RattleType → RattleType → List (Slot (suc (suc m))) → Ended
@@ -175,7 +175,7 @@ module _ {M : Type 1} {𝓤 : Ura M} (𝓛 : Logic 𝓤) (𝓜 : Model 𝓤 𝓛
 
     -- nothing is had of the other parameters at exit
     abbrev hs : Stays T.signature.params T.kept
-    hs = (given-up (buffer (suc m) E) yes, params.dropped ss (all yes ss))
+    hs = (given_up (buffer (suc m) E) yes, params.dropped ss (all yes ss))
 
     -- as a triple: what the walk knows of the second function
     abbrev FieldsOf : Contract 𝓤
@@ -189,7 +189,7 @@ module _ {M : Type 1} {𝓤 : Ura M} (𝓛 : Logic 𝓤) (𝓜 : Model 𝓤 𝓛
     -- fn is such a function, of f and g
     abbrev IsTaking : Fn → Callee → Callee → Type 0
     IsTaking fn f g = (κs : Lfts (suc (suc m))) → ◌≡◌ {A = List Local × Body} (fn.locals, fn.body)
-        (declared (mirs (types_at ss κs)) result.ty (pointee E.written) ν outcome.ty (part-ty erased Q), code (mirs (types_at ss κs)) (pointee E.written) f g)
+        (declared (mirs (types_at ss κs)) result.ty (pointee E.written) ν outcome.ty (part_ty erased Q), code (mirs (types_at ss κs)) (pointee E.written) f g)
 
     module _ (shown : Shown) (κs : Lfts (suc (suc m))) (qs : Shares (suc (suc m))) (x : MutBor (List E.Denot)) (a : Denots (types_at ss κs)) (vss : Valss (types_at ss κs)) (h : (k κs (x, a)).ghost) where
       abbrev Ts : List RattleType
@@ -229,16 +229,16 @@ module _ {M : Type 1} {𝓤 : Ura M} (𝓛 : Logic 𝓤) (𝓜 : Model 𝓤 𝓛
           qed 𝓛 (raw t₀ ∷ raw t₁ ∷ raw t₂ ∷ ‵ (Ended-at last) ∷ ‵ (R.own_val r (w ∷ [])) ∷ []) ∵
           suffices ! _ (ends_at 𝓛 T hs k ((κs, qs, tt, (x, a), (s ∷ [], vss)), h) w r (last, ws) (tt, params.fits κs ss (all yes ss) a ws)) $
           use0 𝓛 (raw ((k κs (x, a)).ensures h r e)) (via 𝓤 _ (fact_i 𝓤 (Said (front m κs) (x, (o, (b, tt))) r) (emp 𝓤) said) (shown κs (x, a) h e o b r)) $
-          use0 𝓛 (‵ (has_of κs ss (all yes ss) (params.dropped ss (all yes ss)) a ws vss)) (params.none-had 𝓛 κs ss (all yes ss) a ws vss) $
+          use0 𝓛 (‵ (has_of κs ss (all yes ss) (params.dropped ss (all yes ss)) a ws vss)) (params.none_had 𝓛 κs ss (all yes ss) a ws vss) $
           -- [what is had of the other parameters; the clause; the three tokens; what says the last value; the result]
           move ! (5 ∷ 0 ∷ []) $ fjoin ! $ move ! (0 ∷ 5 ∷ []) $ join ! $ move ! (3 ∷ 4 ∷ []) $ join ! $ move ! (3 ∷ 0 ∷ []) $ join ! $ join ! $ done !
 
       -- the part's lifetime as the struct has it, and the part's type as the second function has it
-      abbrev own-lft : NamedLft
-      own-lft = named_lft (suc m) 0 tt κs.1
+      abbrev own_lft : NamedLft
+      own_lft = named_lft (suc m) 0 tt κs.1
 
       abbrev D : Type 0
-      D = (P own-lft).Denot
+      D = (P own_lft).Denot
 
       abbrev B : RattleType
       B = type_at (part Q) (front m κs)
@@ -254,20 +254,20 @@ module _ {M : Type 1} {𝓤 : Ura M} (𝓛 : Logic 𝓤) (𝓜 : Model 𝓤 𝓛
       tl = (outcome.tells, (shr_slice_Tells (named 1) κs.1.0 Q, tt))
 
       abbrev fields : D → Denots (O ∷ B ∷ [])
-      fields r = (struct.fst own-lft r, (struct.snd own-lft r, tt))
+      fields r = (struct.fst own_lft r, (struct.snd own_lft r, tt))
 
       abbrev u : D → Val
-      u r = outcome.val (struct.fst own-lft r)
+      u r = outcome.val (struct.fst own_lft r)
 
       abbrev v : D → Val
-      v r = slice_val (struct.snd own-lft r).ref_ptr (length (struct.snd own-lft r).now)
+      v r = slice_val (struct.snd own_lft r).ref_ptr (length (struct.snd own_lft r).now)
 
       abbrev Fields : D → Fml
       Fields r = owns (O ∷ B ∷ []) (fields r) (valss (O ∷ B ∷ []) sp (fields r))
 
       -- a struct that was handed back, and what stands beside the parameters once it is known
       abbrev Y : Type 0
-      Y = (r : D) × (Fits outcome.ty (u r) × Fits (part-ty erased Q) (v r))
+      Y = (r : D) × (Fits outcome.ty (u r) × Fits (part_ty erased Q) (v r))
 
       abbrev Mid : Y → SProp 𝓤
       Mid y = ⋆ 𝓛 (raw t₀ ∷ raw (toks 𝓛 (suc m) κs.1 qs.1) ∷ ‵ Lent ∷ ‵ (Fields y.0) ∷ [])
@@ -275,22 +275,22 @@ module _ {M : Type 1} {𝓤 : Ura M} (𝓛 : Logic 𝓤) (𝓜 : Model 𝓤 𝓛
       abbrev Parted : Val → SProp 𝓤
       Parted w = H.⇛ (ex 𝓤 (λ (y : Y). sep 𝓤 (Mid y) (fact 𝓤 (w ≡ two (u y.0) (v y.0)))))
 
-      parts : (w : Val) → ent 𝓤 (sep 𝓤 (Handed (suc m) κs.1 qs.1 (P own-lft) w) (sep 𝓤 t₀ (sem 𝓛 Lent))) (Parted w)
+      parts : (w : Val) → ent 𝓤 (sep 𝓤 (Handed (suc m) κs.1 qs.1 (P own_lft) w) (sep 𝓤 t₀ (sem 𝓛 Lent))) (Parted w)
       parts w =
-          qed 𝓛 (later (some (λ (r : D). raw (toks 𝓛 (suc m) κs.1 qs.1) ⊛ ‵ ((P own-lft).own_val r (w ∷ [])))) ∷ (raw t₀ ⊛ ‵ Lent) ∷ []) ∵
+          qed 𝓛 (later (some (λ (r : D). raw (toks 𝓛 (suc m) κs.1 qs.1) ⊛ ‵ ((P own_lft).own_val r (w ∷ [])))) ∷ (raw t₀ ⊛ ‵ Lent) ∷ []) ∵
           updating ! $ await ! tt $ pick ! (λ r. split ! $ move ! (1 ∷ []) $
-          use1 𝓛 (‵ ((Struct S).own_val (fields r) (w ∷ []))) (subst (λ (X : Fml). ent 𝓤 (sem 𝓛 ((P own-lft).own_val r (w ∷ []))) (sem 𝓛 X)) (struct.takes own-lft r w) (id⊢ 𝓤 _)) $
+          use1 𝓛 (‵ ((Struct S).own_val (fields r) (w ∷ []))) (subst (λ (X : Fml). ent 𝓤 (sem 𝓛 ((P own_lft).own_val r (w ∷ []))) (sem 𝓛 X)) (struct.takes own_lft r w) (id⊢ 𝓤 _)) $
           peeks ! (Struct S) (Is (Struct S)) (shows 𝓛 (Struct S)) (fields r) (w ∷ []) (λ is.
           let are = are_all S sp tl (fields r) (w ∷ []) is in
-          let fit : Fits outcome.ty (u r) × Fits (part-ty erased Q) (v r) = (fits outcome 𝓛 (struct.fst own-lft r) (u r) are.0, slice-fits erased κs.1.0 Q 𝓛 (struct.snd own-lft r) (v r) are.1.0) in
+          let fit : Fits outcome.ty (u r) × Fits (part_ty erased Q) (v r) = (fits outcome 𝓛 (struct.fst own_lft r) (u r) are.0, slice_fits erased κs.1.0 Q 𝓛 (struct.snd own_lft r) (v r) are.1.0) in
           use1 𝓛 (‵ (Fields r)) (takes 𝓛 S sp tl (fields r) (w ∷ [])) $
           at_once ! $ show ! (λ (y : Y). sep 𝓤 (Mid y) (fact 𝓤 (w ≡ two (u y.0) (v y.0)))) (r, fit) $ says ! (ap only (Struct-Tells S sp tl (fields r) (w ∷ []) is)) $
           -- [what the fields own; the tokens; the buffer's token, and what it owns]
           move ! (2 ∷ []) $ split ! $ move ! (0 ∷ 3 ∷ []) $ done !))
 
-      gives : (f : Routine) → Hands f (suc m) κs.1 qs.1 Ts a vss (P own-lft) → ent 𝓤 entry (𝓡.run f (flat Ts vss) Parted)
+      gives : (f : Routine) → Hands f (suc m) κs.1 qs.1 Ts a vss (P own_lft) → ent 𝓤 entry (𝓡.run f (flat Ts vss) Parted)
       gives f hands =
-          let handed : Val → SProp 𝓤 = Handed (suc m) κs.1 qs.1 (P own-lft) in
+          let handed : Val → SProp 𝓤 = Handed (suc m) κs.1 qs.1 (P own_lft) in
           via 𝓤 (sep 𝓤 (𝓡.run f (flat Ts vss) handed) (sep 𝓤 t₀ (sem 𝓛 Lent)))
           (qed 𝓛 ((raw t₀ ⊛ raw (toks 𝓛 (suc m) κs.1 qs.1)) ∷ ‵ (owns (types_at (buffer (suc m) E ∷ ss) κs) (x, a) (s ∷ [], vss)) ∷ []) ∵
           split ! $ move ! (2 ∷ []) $ fsplit ! $ move ! (3 ∷ 1 ∷ []) $ use2 𝓛 (raw (𝓡.run f (flat Ts vss) handed)) hands $ frame ! $ move ! (1 ∷ []) $ done !)
@@ -301,7 +301,7 @@ module _ {M : Type 1} {𝓤 : Ura M} (𝓛 : Logic 𝓤) (𝓜 : Model 𝓤 𝓛
       to r = (x, fields r)
 
       abbrev passed : D → FieldsOf.Ghost
-      passed r = ((front m κs, front-shares m qs, tt, to r, (s ∷ [], (u r ∷ [], (v r ∷ [], tt)))), tt)
+      passed r = ((front m κs, front_shares m qs, tt, to r, (s ∷ [], (u r ∷ [], (v r ∷ [], tt)))), tt)
 
       asked : (r : D) → ent 𝓤 (⋆ 𝓛 (raw t₀ ∷ raw t₁ ∷ ‵ Lent ∷ ‵ (Fields r) ∷ [])) (FieldsOf.pre (passed r))
       asked r =
@@ -322,10 +322,10 @@ module _ {M : Type 1} {𝓤 : Ura M} (𝓛 : Logic 𝓤) (𝓜 : Model 𝓤 𝓛
           -- [what says the last value; the tokens and the result; the other tokens]
           move ! (1 ∷ []) $ split ! $ move ! (1 ∷ []) $ peeks ! R (Is R) (shows 𝓛 R) z (w ∷ []) (λ is. at_once ! $ says ! (fits result 𝓛 z w is) $ move ! (1 ∷ []) $ split3 ! $
           -- [the two tokens; nothing; the result; what says the last value; the other tokens]
-          keep ! (0 ∷ 1 ∷ 5 ∷ 4 ∷ 3 ∷ []) $ by ! (ends (struct.fst own-lft r) (struct.snd own-lft r) z w ws.0 said)))))
+          keep ! (0 ∷ 1 ∷ 5 ∷ 4 ∷ 3 ∷ []) $ by ! (ends (struct.fst own_lft r) (struct.snd own_lft r) z w ws.0 said)))))
 
-      ends-in : (g : Routine) → Triple 𝓤 (𝓡.run g) FieldsOf → (y : Y) → ent 𝓤 (Mid y) (𝓡.run g (s ∷ u y.0 ∷ v y.0 ∷ []) Taken)
-      ends-in g known y =
+      ends_in : (g : Routine) → Triple 𝓤 (𝓡.run g) FieldsOf → (y : Y) → ent 𝓤 (Mid y) (𝓡.run g (s ∷ u y.0 ∷ v y.0 ∷ []) Taken)
+      ends_in g known y =
           let r : D = y.0 in
           let vs : List Val = s ∷ u r ∷ v r ∷ [] in
           via 𝓤 (sep 𝓤 (𝓡.run g vs (FieldsOf.post (passed r))) t₂)
@@ -338,16 +338,16 @@ module _ {M : Type 1} {𝓤 : Ura M} (𝓛 : Logic 𝓤) (𝓜 : Model 𝓤 𝓛
       runs_so 𝓣 f g first second short are fn is =
           qed 𝓛 (raw entry ∷ []) ∵ enter ! 𝓣.C 𝓣.Λ fn (s ∷ flat Ts vss) Post $
           regoal ! (λ (z : List Local × Body). allocs z.0 (λ E'. params' E' (s ∷ flat Ts vss) (runs 𝓣.C 𝓣.Λ E' z.1 (at_ret E' Post)))) (is κs) refl $
-          walk 𝓛 𝓣.C 𝓣.Λ (fm_of 𝓤 H 𝓛.laws 𝓣) f g (mirs Ts) (flat Ts vss) are result.ty (pointee E.written) ν outcome.ty (part-ty erased Q) x.ref_ptr (length x.now) short
+          walk 𝓛 𝓣.C 𝓣.Λ (fm_of 𝓤 H 𝓛.laws 𝓣) f g (mirs Ts) (flat Ts vss) are result.ty (pointee E.written) ν outcome.ty (part_ty erased Q) x.ref_ptr (length x.now) short
           Y (λ y. u y.0) (λ y. v y.0) (λ y. y.1.0) (λ y. y.1.1) entry Mid Post first second !
 
     -- fn is the code of c, and γ says what the calls in it mean
-    pub takes-apart : (γ : Means) (c : Callee) (fn : Fn) → Closed 𝓤 H (tables 𝓤 H 𝓜 𝓡 γ).C (tables 𝓤 H 𝓜 𝓡 γ).Λ c fn
+    pub takes_apart : (γ : Means) (c : Callee) (fn : Fn) → Closed 𝓤 H (tables 𝓤 H 𝓜 𝓡 γ).C (tables 𝓤 H 𝓜 𝓡 γ).Λ c fn
         → (f : Callee) (r : Routine) → γ f ≡ r
         → ((κs : Lfts (suc (suc m))) (qs : Shares (suc (suc m))) (a : Denots (types_at ss κs)) (vss : Valss (types_at ss κs)) → Hands r (suc m) κs.1 qs.1 (types_at ss κs) a vss (P (named_lft (suc m) 0 tt κs.1)))
         → (g : Callee) (s' : Routine) → γ g ≡ s' → Triple 𝓤 (𝓡.run s') FieldsOf → Shown → IsTaking fn f g → Meets 𝓛 T.signature (𝓡.run (γ c)) (closing 𝓛 T k)
     unfolding tables_of
-    takes-apart γ c fn closed f r means-f hands g s' means-g known shown is =
+    takes_apart γ c fn closed f r means-f hands g s' means-g known shown is =
         let 𝓣 : Tables 𝓤 H = tables_of 𝓤 H 𝓜 (tables 𝓤 H 𝓜 𝓡 γ) in
         let run : Fun 𝓤 = WpFn 𝓤 H 𝓣.C 𝓣.Λ fn in
         entered 𝓤 H _ (tables 𝓤 H 𝓜 𝓡 γ).C (tables 𝓤 H 𝓜 𝓡 γ).Λ c fn closed
@@ -360,5 +360,5 @@ module _ {M : Type 1} {𝓤 : Ura M} (𝓛 : Logic 𝓤) (𝓜 : Model 𝓤 𝓛
         via 𝓤 _ (fst∗ 𝓤 _ ((k κs xa).requires h))
         (runs_so shown κs qs x a vss h 𝓣 f g
         (subst (λ (r' : Routine). ent 𝓤 (entry shown κs qs x a vss h) (𝓡.run r' (flat (types_at ss κs) vss) (Parted shown κs qs x a vss h))) (sym means-f) (gives shown κs qs x a vss h r (hands κs qs a vss)))
-        (ends-in shown κs qs x a vss h (γ g) (cited 𝓤 H _ 𝓜 𝓡 γ g s' means-g known))
+        (ends_in shown κs qs x a vss h (γ g) (cited 𝓤 H _ 𝓜 𝓡 γ g s' means-g known))
         are.0.0.1.0 (all_Typed 𝓛 (types_at ss κs) (params.lawfuls 𝓛 (types_at ss κs) (ps κs)) a vss are.1) fn is))))

@@ -7,23 +7,23 @@ use Rattle.paper.specs.Numbers.{horizon}
 use Rattle.paper.specs.Analysis.{Tasks, Standing, before, level_of, start_of, finish_of, finish_from, job, worst_from, response}
 use Rattle.paper.specs.declared.Time.{Time}
 use Rattle.paper.specs.declared.Time.TheVariants.{At, Beyond}
-use Rattle.laws.proofs.Arrivals.{late-bound}
+use Rattle.laws.proofs.Arrivals.{late_bound}
 use Rattle.jobs.specs.Stands.{finished, span_from, span_of, count_from, job_count}
 use Rattle.jobs.specs.declared.Span.{Span}
 use Rattle.jobs.specs.declared.Span.TheVariants.{Ends}
 
 module _ (y : Tasks) (s : Standing) (i k : ℕ) where
-  pub span-no-start : start_of y s i k ≡ Beyond → Span.Beyond ≡ span_of y s i k
+  pub span_no_start : start_of y s i k ≡ Beyond → Span.Beyond ≡ span_of y s i k
   unfolding span_of span_from
-  span-no-start e = rw e
+  span_no_start e = rw e
 
-  pub span-no-finish : (v : ℕ) → start_of y s i k ≡ At v → finish_of y s i v ≡ Beyond → Span.Beyond ≡ span_of y s i k
+  pub span_no_finish : (v : ℕ) → start_of y s i k ≡ At v → finish_of y s i v ≡ Beyond → Span.Beyond ≡ span_of y s i k
   unfolding span_of span_from finished
-  span-no-finish v e g = rw (e, g)
+  span_no_finish v e g = rw (e, g)
 
-  pub span-ends : (v f : ℕ) → start_of y s i k ≡ At v → finish_of y s i v ≡ At f → Ends v f ≡ span_of y s i k
+  pub span_ends : (v f : ℕ) → start_of y s i k ≡ At v → finish_of y s i v ≡ At f → Ends v f ≡ span_of y s i k
   unfolding span_of span_from finished
-  span-ends v f e g = rw (e, g)
+  span_ends v f e g = rw (e, g)
 
   pub record Ended (v f : ℕ) : Type 0 where
     pub start : start_of y s i k ≡ At v
@@ -63,23 +63,23 @@ module _ (y : Tasks) (s : Standing) (i : ℕ) where
   unfolding job_count count_from before
   count_at l period jitter jobs h e f j = rw (h, ← e, ← f, j)
 
-  pub count-beyond : level_of y s ≡ Beyond → Beyond ≡ job_count y s i
+  pub count_beyond : level_of y s ≡ Beyond → Beyond ≡ job_count y s i
   unfolding job_count count_from
-  count-beyond h = rw h
+  count_beyond h = rw h
 
   -- no more jobs than ticks, and one that came late
-  pub count-bound : (jobs : ℕ) → y.j i < y.t i → ((l : ℕ) → level_of y s ≡ At l → l ≤ horizon) → job_count y s i ≡ At jobs → jobs ≤ horizon + 1
+  pub count_bound : (jobs : ℕ) → y.j i < y.t i → ((l : ℕ) → level_of y s ≡ At l → l ≤ horizon) → job_count y s i ≡ At jobs → jobs ≤ horizon + 1
   unfolding job_count count_from before
-  count-bound jobs hj range h = go (level_of y s) refl h
+  count_bound jobs hj range h = go (level_of y s) refl h
     where
       go : (v : Time) → level_of y s ≡ v → count_from y i v ≡ At jobs → jobs ≤ horizon + 1
-      go (At l) f e = let z : ceil_div (l + y.j i) (y.t i) ≡ jobs = cc in rw (← z) (omega (arith, late-bound (y.t i) l (y.j i) hj, range l f))
+      go (At l) f e = let z : ceil_div (l + y.j i) (y.t i) ≡ jobs = cc in rw (← z) (omega (arith, late_bound (y.t i) l (y.j i) hj, range l f))
       go Beyond f e = let z : ◌≡◌ {A = ℕ} 0 1 = cc in absurd (omega arith)
 
   -- where they can't be counted, there is no R
-  pub response-beyond : job_count y s i ≡ Beyond → response y s i ≡ Beyond
+  pub response_beyond : job_count y s i ≡ Beyond → response y s i ≡ Beyond
   unfolding job_count count_from response worst_from
-  response-beyond h = go (level_of y s) h
+  response_beyond h = go (level_of y s) h
     where
       go : (v : Time) → count_from y i v ≡ Beyond → worst_from y s i v ≡ Beyond
       go (At l) e = let z : ◌≡◌ {A = ℕ} 0 1 = cc in absurd (omega arith)

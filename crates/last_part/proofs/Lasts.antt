@@ -12,7 +12,7 @@ use Rattle.paper.specs.Answers.{regions_outcome, regions_place, regions_words, l
 use Rattle.paper.specs.declared.Table.{Table}
 use Rattle.paper.specs.declared.Outcome.{Outcome}
 use Rattle.paper.specs.declared.Outcome.TheVariants.{Done, Refused}
-use Rattle.paper.proofs.Points.{held, words-counted, last-is-last}
+use Rattle.paper.proofs.Points.{held, words_counted, last_is_last}
 use Rattle.parts.specs.Parts.{LiesIn, IsPart, AreRegions}
 use Rattle.last_part.specs.Last.{last_of, IsLast}
 
@@ -26,8 +26,8 @@ pub last_some : (count : ℕ) → 1 ≤ count → last_of count ≡ record { fro
 last_some zero h = absurd (omega arith)
 last_some (suc k) h = let e : suc k - 1 ≡ k = omega arith in rw e
 
-last-at : (words : List ℕ) → 1 ≤ length words → part_of (last_of (length words)) words ≡ get_or words (length words - 1) 0 ∷ []
-last-at words h = rw (last_some (length words) h) (ap (take 1) (drop-cons words (length words - 1) 0 (omega arith)))
+last_at : (words : List ℕ) → 1 ≤ length words → part_of (last_of (length words)) words ≡ get_or words (length words - 1) 0 ∷ []
+last_at words h = rw (last_some (length words) h) (ap (take 1) (drop-cons words (length words - 1) 0 (omega arith)))
 
 -- a part of a part
 part_lies : {s w r : Bor (List ℕ)} {p q m : Part} → LiesIn s 4 p w → LiesIn w 4 q r → m.from ≡ p.from + q.from → LiesIn s 4 m r
@@ -42,24 +42,24 @@ module _ (t : Table) (own catalogue : List ℕ) (number : ℕ) where
     word : part_of (last_of (length words)) words ≡ last_words t own catalogue number
     from : (last_place t own catalogue number).from ≡ (regions_place t own catalogue number).from + (last_of (length words)).from
 
-  last-is : Last
-  last-is = go (regions_outcome t own catalogue number) refl
+  last_is : Last
+  last_is = go (regions_outcome t own catalogue number) refl
     where
       go : (o : Outcome) → regions_outcome t own catalogue number ≡ o → Last
       go (Refused x) e = record { word = rw e; from = rw e }
       go Done e =
           let r = rec t.records (number - 1) in
-          let count = words-counted t own catalogue number e in
+          let count = words_counted t own catalogue number e in
           let there = (held t own catalogue number e).there in
           record {
-            word = last-at words (omega arith) ∙ sym (last-is-last t own catalogue number e);
+            word = last_at words (omega arith) ∙ sym (last_is_last t own catalogue number e);
             from = rw (last_some (length words) (omega arith), count, e) (omega arith);
           }
 
 pub is_last : (t : Table) (own catalogue : Bor (List ℕ)) (number : ℕ) (w r : Bor (List ℕ))
     → AreRegions t own catalogue number w → IsPart w 4 (last_of (length w.now)) r → IsLast t own catalogue number r
 is_last t own catalogue number w r whole cut =
-    let l = last-is t own.now catalogue.now number in
+    let l = last_is t own.now catalogue.now number in
     record {
       word = cut.contents ∙ rw whole.words l.word;
       place = part_lies whole.place cut.place (rw whole.words l.from);

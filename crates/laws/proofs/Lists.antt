@@ -12,9 +12,9 @@ use Rattle.paper.specs.Vocabulary.{list_to}
 use Rattle.paper.specs.Numbers.{most_tasks, per_task}
 
 module _ {A : Type 0} where
-  pub list-more : (k : ℕ) (f : ℕ → A) → list_to (k + 1) f ≡ list_to k f ++ (f k ∷ [])
+  pub list_more : (k : ℕ) (f : ℕ → A) → list_to (k + 1) f ≡ list_to k f ++ (f k ∷ [])
   unfolding list_to
-  list-more k f = rw add-one
+  list_more k f = rw add-one
 
   pub list_length : (n : ℕ) (f : ℕ → A) → length (list_to n f) ≡ n
   unfolding list_to
@@ -45,45 +45,45 @@ module _ {A : Type 0} where
 
   pub fill_more : (N i : ℕ) (f : ℕ → A) (z : A) → i < N
       → set (list_to i f ++ replicate (N - i) z) i (f i) ≡ list_to (i + 1) f ++ replicate (N - (i + 1)) z
-  fill_more N i f z h = rw (list-more i f) (fill N i (list_to i f) z (f i) (list_length i f) h)
+  fill_more N i f z h = rw (list_more i f) (fill N i (list_to i f) z (f i) (list_length i f) h)
 
   -- the turn of a loop that has stored up to i
-  pub fill-turn : (N i : ℕ) (f : ℕ → A) (z : A) {xs : List A} {a : A} → i < N
+  pub fill_turn : (N i : ℕ) (f : ℕ → A) (z : A) {xs : List A} {a : A} → i < N
       → xs ≡ list_to i f ++ replicate (N - i) z → a ≡ f i → set xs i a ≡ list_to (i + 1) f ++ replicate (N - (i + 1)) z
-  fill-turn N i f z h e g = rw (e, g) (fill_more N i f z h)
+  fill_turn N i f z h e g = rw (e, g) (fill_more N i f z h)
 
   -- the array of a table's records, or of an answer
-  pub per-task-none : (f : ℕ → A) (z : A) → replicate most_tasks z ≡ per_task 0 f z
+  pub per_task_none : (f : ℕ → A) (z : A) → replicate most_tasks z ≡ per_task 0 f z
   unfolding per_task list_to
-  per-task-none f z = refl
+  per_task_none f z = refl
 
-  pub per-task-turn : (i : ℕ) (f : ℕ → A) (z : A) {xs : List A} {a : A} → i < most_tasks
+  pub per_task_turn : (i : ℕ) (f : ℕ → A) (z : A) {xs : List A} {a : A} → i < most_tasks
       → xs ≡ per_task i f z → a ≡ f i → set xs i a ≡ per_task (i + 1) f z
   unfolding per_task
-  per-task-turn i f z h e g = fill-turn most_tasks i f z h e g
+  per_task_turn i f z h e g = fill_turn most_tasks i f z h e g
 
   -- it is full
-  pub per-task-full : (f : ℕ → A) (z : A) → per_task most_tasks f z ≡ list_to most_tasks f
+  pub per_task_full : (f : ℕ → A) (z : A) → per_task most_tasks f z ≡ list_to most_tasks f
   unfolding per_task
-  per-task-full f z = append-nil (list_to most_tasks f)
+  per_task_full f z = append-nil (list_to most_tasks f)
 
-  pub per-task-length : (n : ℕ) (f : ℕ → A) (z : A) → n ≤ most_tasks → length (per_task n f z) ≡ most_tasks
+  pub per_task_length : (n : ℕ) (f : ℕ → A) (z : A) → n ≤ most_tasks → length (per_task n f z) ≡ most_tasks
   unfolding per_task
-  per-task-length n f z h = simp (length-append, list_length, length-replicate) (omega arith)
+  per_task_length n f z h = simp (length-append, list_length, length-replicate) (omega arith)
 
-  pub per-task-same : (n : ℕ) (f g : ℕ → A) (z : A) → ((k : ℕ) → k < n → f k ≡ g k) → per_task n f z ≡ per_task n g z
+  pub per_task_same : (n : ℕ) (f g : ℕ → A) (z : A) → ((k : ℕ) → k < n → f k ≡ g k) → per_task n f z ≡ per_task n g z
   unfolding per_task
-  per-task-same n f g z h = ap (λ xs. xs ++ replicate (most_tasks - n) z) (list_same n f g h)
+  per_task_same n f g z h = ap (λ xs. xs ++ replicate (most_tasks - n) z) (list_same n f g h)
 
-  pub per-task-at : (n : ℕ) (f : ℕ → A) (z d : A) (k : ℕ) → k < n → get_or (per_task n f z) k d ≡ f k
+  pub per_task_at : (n : ℕ) (f : ℕ → A) (z d : A) (k : ℕ) → k < n → get_or (per_task n f z) k d ≡ f k
   unfolding per_task
-  per-task-at n f z d k h =
+  per_task_at n f z d k h =
       let m : k < length (list_to n f) = rw (list_length n f) h in
       get_or-append (list_to n f) (replicate (most_tasks - n) z) d k m ∙ list_at n f d k h
 
-  pub per-task-past : (n : ℕ) (f : ℕ → A) (z d : A) (k : ℕ) → n ≤ k → k < most_tasks → get_or (per_task n f z) k d ≡ z
+  pub per_task_past : (n : ℕ) (f : ℕ → A) (z d : A) (k : ℕ) → n ≤ k → k < most_tasks → get_or (per_task n f z) k d ≡ z
   unfolding per_task
-  per-task-past n f z d k h l =
+  per_task_past n f z d k h l =
       let q : k ≡ length (list_to n f) + (k - n) = rw (list_length n f) (omega arith) in
       ap (λ (i : ℕ). get_or (list_to n f ++ replicate (most_tasks - n) z) i d) q
       ∙ get_or-append-add (list_to n f) (replicate (most_tasks - n) z) (k - n) d

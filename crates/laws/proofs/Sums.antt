@@ -10,19 +10,19 @@ use lib.Dec.{eqb}
 use borrow.Author.Tests.{eqb-true}
 use Rattle.paper.specs.Vocabulary.{sum_to, max_to}
 
-pub sum-none : (f : ℕ → ℕ) → sum_to 0 f ≡ 0
+pub sum_none : (f : ℕ → ℕ) → sum_to 0 f ≡ 0
 unfolding sum_to
-sum-none f = refl
+sum_none f = refl
 
-pub sum-le : (n : ℕ) (f g : ℕ → ℕ) → ((j : ℕ) → j < n → f j ≤ g j) → sum_to n f ≤ sum_to n g
+pub sum_le : (n : ℕ) (f g : ℕ → ℕ) → ((j : ℕ) → j < n → f j ≤ g j) → sum_to n f ≤ sum_to n g
 unfolding sum_to
-sum-le zero f g h = zero-le
-sum-le (suc n) f g h = add-le-add (sum-le n f g (λ j l. h j (omega arith))) (h n (omega arith))
+sum_le zero f g h = zero-le
+sum_le (suc n) f g h = add-le-add (sum_le n f g (λ j l. h j (omega arith))) (h n (omega arith))
 
-pub sum-add : (n : ℕ) (f g h : ℕ → ℕ) → ((j : ℕ) → j < n → f j + g j ≡ h j) → sum_to n f + sum_to n g ≡ sum_to n h
+pub sum_add : (n : ℕ) (f g h : ℕ → ℕ) → ((j : ℕ) → j < n → f j + g j ≡ h j) → sum_to n f + sum_to n g ≡ sum_to n h
 unfolding sum_to
-sum-add zero f g h w = refl
-sum-add (suc n) f g h w = omega (arith, sum-add n f g h (λ j l. w j (omega arith)), w n (omega arith))
+sum_add zero f g h w = refl
+sum_add (suc n) f g h w = omega (arith, sum_add n f g h (λ j l. w j (omega arith)), w n (omega arith))
 
 pub sum_bound : (n most : ℕ) (f : ℕ → ℕ) → ((j : ℕ) → j < n → f j ≤ most) → sum_to n f ≤ n * most
 unfolding sum_to
@@ -30,12 +30,12 @@ sum_bound zero most f h = zero-le
 sum_bound (suc n) most f h = rw suc-mul (add-le-add (sum_bound n most f (λ j l. h j (omega arith))) (h n (omega arith)))
 
 -- each part is at most the whole
-pub sum-part : (n : ℕ) (f : ℕ → ℕ) (i : ℕ) → i < n → f i ≤ sum_to n f
+pub sum_part : (n : ℕ) (f : ℕ → ℕ) (i : ℕ) → i < n → f i ≤ sum_to n f
 unfolding sum_to
-sum-part zero f i l = absurd (omega arith)
-sum-part (suc n) f i l =
+sum_part zero f i l = absurd (omega arith)
+sum_part (suc n) f i l =
     let h : i ≤ n = omega arith in
-    ⊎_elim (λ e. rw e (omega arith)) (λ m. omega (arith, sum-part n f i m)) (eq-or-lt_of_le h)
+    ⊎_elim (λ e. rw e (omega arith)) (λ m. omega (arith, sum_part n f i m)) (eq-or-lt_of_le h)
 
 -- a sum of which one part counts is at most that part
 pub sum_one : (i v n : ℕ) → sum_to n (λ j. cond (eqb j i) v 0) ≤ v
@@ -57,37 +57,37 @@ pub max_none : (f : ℕ → ℕ) → max_to 0 f ≡ 0
 unfolding max_to
 max_none f = refl
 
-pub max-more : (n : ℕ) (f : ℕ → ℕ) → max_to (n + 1) f ≡ max (max_to n f) (f n)
+pub max_more : (n : ℕ) (f : ℕ → ℕ) → max_to (n + 1) f ≡ max (max_to n f) (f n)
 unfolding max_to
-max-more n f = rw add-one
+max_more n f = rw add-one
 
 -- the turn of a loop that has x so far, and its end
-pub max-turn : (k : ℕ) (f : ℕ → ℕ) {x t : ℕ} → x ≡ max_to k f → t ≡ f k → max x t ≡ max_to (k + 1) f
-max-turn k f e g = rw (max-more k f, e, g)
+pub max_turn : (k : ℕ) (f : ℕ → ℕ) {x t : ℕ} → x ≡ max_to k f → t ≡ f k → max x t ≡ max_to (k + 1) f
+max_turn k f e g = rw (max_more k f, e, g)
 
-pub max-same : (n : ℕ) (f g : ℕ → ℕ) → ((j : ℕ) → j < n → f j ≡ g j) → max_to n f ≡ max_to n g
+pub max_same : (n : ℕ) (f g : ℕ → ℕ) → ((j : ℕ) → j < n → f j ≡ g j) → max_to n f ≡ max_to n g
 unfolding max_to
-max-same zero f g h = refl
-max-same (suc n) f g h = ap₂ max (max-same n f g (λ j l. h j (omega arith))) (h n (omega arith))
+max_same zero f g h = refl
+max_same (suc n) f g h = ap₂ max (max_same n f g (λ j l. h j (omega arith))) (h n (omega arith))
 
-pub max-bound : (n most : ℕ) (f : ℕ → ℕ) → ((j : ℕ) → j < n → f j ≤ most) → max_to n f ≤ most
+pub max_bound : (n most : ℕ) (f : ℕ → ℕ) → ((j : ℕ) → j < n → f j ≤ most) → max_to n f ≤ most
 unfolding max_to
-max-bound zero most f h = zero-le
-max-bound (suc n) most f h = omega (arith, max-bound n most f (λ j l. h j (omega arith)), h n (omega arith))
+max_bound zero most f h = zero-le
+max_bound (suc n) most f h = omega (arith, max_bound n most f (λ j l. h j (omega arith)), h n (omega arith))
 
 -- each of them is at most the largest
-pub max-part : (n : ℕ) (f : ℕ → ℕ) (i : ℕ) → i < n → f i ≤ max_to n f
+pub max_part : (n : ℕ) (f : ℕ → ℕ) (i : ℕ) → i < n → f i ≤ max_to n f
 unfolding max_to
-max-part zero f i l = absurd (omega arith)
-max-part (suc n) f i l =
+max_part zero f i l = absurd (omega arith)
+max_part (suc n) f i l =
     let h : i ≤ n = omega arith in
-    ⊎_elim (λ e. rw e (omega arith)) (λ m. omega (arith, max-part n f i m)) (eq-or-lt_of_le h)
+    ⊎_elim (λ e. rw e (omega arith)) (λ m. omega (arith, max_part n f i m)) (eq-or-lt_of_le h)
 
 -- a part that counts or not
-pub part-le : (t : Bool) {a b : ℕ} → a ≤ b → cond t a 0 ≤ cond t b 0
-part-le true h = h
-part-le false h = zero-le
+pub part_le : (t : Bool) {a b : ℕ} → a ≤ b → cond t a 0 ≤ cond t b 0
+part_le true h = h
+part_le false h = zero-le
 
-pub part-bound : (t : Bool) {a most : ℕ} → a ≤ most → cond t a 0 ≤ most
-part-bound true h = h
-part-bound false h = zero-le
+pub part_bound : (t : Bool) {a most : ℕ} → a ≤ most → cond t a 0 ≤ most
+part_bound true h = h
+part_bound false h = zero-le

@@ -6,8 +6,8 @@ use lib.Dec.{eqb}
 use Rattle.paper.specs.File.{record_at}
 use Rattle.layout.specs.Places.{Holds, Lies}
 
-pub record-lies : (size e n k : ℕ) → Holds size e n → k < n → Lies size e (record_at e k)
-record-lies size e n k h l = let g = go (eqb e 2) h.long in record { near = g.0; used = g.1; all = g.2 }
+pub record_lies : (size e n k : ℕ) → Holds size e n → k < n → Lies size e (record_at e k)
+record_lies size e n k h l = let g = go (eqb e 2) h.long in record { near = g.0; used = g.1; all = g.2 }
   where
     few : n ≤ 15
     few = h.tasks

@@ -8,21 +8,21 @@ use borrow.Author.Tests.{ltb-true}
 use lib.IntN.{ℤ, pos, negsuc, suc_ℤ, ◌+ℤ◌, +ℤ_one}
 use lib.Signed.{mag, lt_z}
 use Rattle.paper.specs.Lengths.{smaller, least_of}
-use Rattle.laws.proofs.Signed.{smaller-next}
+use Rattle.laws.proofs.Signed.{smaller_next}
 
 module _ (set : ℕ → Bool) (f : ℕ → ℤ) (x : ℤ) where
-  pub least-none : least_of 0 set f x ≡ x
+  pub least_none : least_of 0 set f x ≡ x
   unfolding least_of
-  least-none = refl
+  least_none = refl
 
-  pub least-turn : (j : ℕ) {q t : ℤ} → q ≡ least_of j set f x → t ≡ f j → cond (set j) (smaller q t) q ≡ least_of (j + 1) set f x
+  pub least_turn : (j : ℕ) {q t : ℤ} → q ≡ least_of j set f x → t ≡ f j → cond (set j) (smaller q t) q ≡ least_of (j + 1) set f x
   unfolding least_of
-  least-turn j e h = rw (add-one, e, h)
+  least_turn j e h = rw (add-one, e, h)
 
 module _ (q t : ℤ) where
   -- a task narrows q where it is above and its tolerance t lies below q
   pub narrows : (above : Bool) → cond above (smaller q (t +ℤ pos 1)) q ≡ cond (above && lt_z t q) (t +ℤ pos 1) q
-  narrows true = smaller-next q t
+  narrows true = smaller_next q t
   narrows false = refl
 
   -- and there the tolerance plus 1 is no further from 0 than one of the two

@@ -18,10 +18,10 @@ cleared s i e h =
     rw (← h) (e ∙ ap (λ (t : List ℕ). replicate i 0 ++ t) (drop_of_length-le s l) ∙ append-nil (replicate i 0))
 
 -- the turn of a loop that has put i records, or i words
-pub records-turn : (s : List ℕ) (e : ℕ) (rs : List Record) (i : ℕ) {x y : List ℕ} → x ≡ put_records s e rs i
+pub records_turn : (s : List ℕ) (e : ℕ) (rs : List Record) (i : ℕ) {x y : List ℕ} → x ≡ put_records s e rs i
     → y ≡ put_fields x (record_at e i) (record_widths e) (record_values e (rec rs i)) → y ≡ put_records s e rs (i + 1)
 unfolding put_records
-records-turn s e rs i p f = rw (add-one, ← p) f
+records_turn s e rs i p f = rw (add-one, ← p) f
 
 -- two words more: word i stands at `at`
 pub pair_turn : (s : List ℕ) (e n : ℕ) (ws : List ℕ) (i at : ℕ) {x y : List ℕ} → at ≡ word_at e n i → x ≡ put_words s e n ws i
@@ -31,13 +31,13 @@ pair_turn s e n ws i at a q f =
     let p : at + 20 ≡ word_at e n (i + 1) = omega arith in
     rw (add-two, ← add-one i, ← p, ← a, ← q) f
 
-pub word-turn : (s : List ℕ) (e n : ℕ) (ws : List ℕ) (i : ℕ) {x y : List ℕ} → x ≡ put_words s e n ws i
+pub word_turn : (s : List ℕ) (e n : ℕ) (ws : List ℕ) (i : ℕ) {x y : List ℕ} → x ≡ put_words s e n ws i
     → y ≡ put_field x (word_at e n i) 20 (get_or ws i 0) → y ≡ put_words s e n ws (i + 1)
 unfolding put_words
-word-turn s e n ws i q f = rw (add-one, ← q) f
+word_turn s e n ws i q f = rw (add-one, ← q) f
 
 -- a record's fields: its numbers, what it says of regions and name, and what its edition has behind them, at any widths ws
-pub record-parts : (s : List ℕ) (at : ℕ) (r : Record) (ws vs : List ℕ) →
+pub record_parts : (s : List ℕ) (at : ℕ) (r : Record) (ws vs : List ℕ) →
     put_fields
     (put_fields
     (put_fields s at (take 5 used_widths) (r.cost ∷ r.period ∷ r.deadline ∷ r.priority ∷ r.threshold ∷ []))
@@ -45,4 +45,4 @@ pub record-parts : (s : List ℕ) (at : ℕ) (r : Record) (ws vs : List ℕ) →
     (at + 90) ws vs
     ≡ put_fields s at (used_widths ++ ws) (used_values r ++ vs)
 unfolding put_fields
-record-parts s at r ws vs = simp add_assoc
+record_parts s at r ws vs = simp add_assoc

@@ -40,14 +40,14 @@ pub next_row : (t : Table) (given : List ℕ) (room : ℕ) → numbers (next_ask
 next_row t given room = refl
 
 -- Handing back a record asks 1 to 11, with 18 as reading has it, then 13
-pub a-record : (f : List ℕ) (cabinet line : ℕ) (catalogue : List ℕ) (number : ℕ)
+pub a_record : (f : List ℕ) (cabinet line : ℕ) (catalogue : List ℕ) (number : ℕ)
     → numbers (record_asks f cabinet line catalogue number) ≡ 1 ∷ 2 ∷ 18 ∷ 3 ∷ 4 ∷ 5 ∷ 6 ∷ 7 ∷ 8 ∷ 9 ∷ 10 ∷ 11 ∷ 13 ∷ []
-a-record f cabinet line catalogue number = refl
+a_record f cabinet line catalogue number = refl
 
 -- regions ask 5, 13, then 11
 pub regions : (t : Table) (own catalogue : List ℕ) (number : ℕ) → numbers (regions_asks t own catalogue number) ≡ 5 ∷ 13 ∷ 11 ∷ []
 regions t own catalogue number = refl
 
 -- a name 9, then 13
-pub a-name : (number : ℕ) (cabinet house : List ℕ) → numbers (name_asks number cabinet house) ≡ 9 ∷ 13 ∷ []
-a-name number cabinet house = refl
+pub a_name : (number : ℕ) (cabinet house : List ℕ) → numbers (name_asks number cabinet house) ≡ 9 ∷ 13 ∷ []
+a_name number cabinet house = refl

@@ -11,12 +11,12 @@ use Rattle.paper.specs.declared.Refusal.{Refusal}
 use Rattle.paper.specs.declared.Outcome.{Outcome}
 use Rattle.paper.specs.declared.Outcome.TheVariants.{Done, Refused}
 
-refused-not-done : (r : Refusal) → Refused r ≡ Done → ⊥
-refused-not-done r e = let z : ◌≡◌ {A = ℕ} 0 1 = cc in omega arith
+refused_not_done : (r : Refusal) → Refused r ≡ Done → ⊥
+refused_not_done r e = let z : ◌≡◌ {A = ℕ} 0 1 = cc in omega arith
 
 -- a list is done: its first ask does not apply, and the rest is done
 pub clear : (b : Bool) (r : Refusal) (o : Outcome) → cond b (Refused r) o ≡ Done → (b ≡ false) × (o ≡ Done)
-clear true r o e = absurd (refused-not-done r e)
+clear true r o e = absurd (refused_not_done r e)
 clear false r o e = (refl, e)
 
 -- the same where the ask is that a condition fails: the condition holds

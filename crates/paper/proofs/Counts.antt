@@ -14,17 +14,17 @@ use Rattle.paper.specs.declared.Table.{Table}
 use Rattle.paper.specs.declared.Refusal.TheVariants.{WrongCounts}
 use Rattle.paper.specs.declared.Outcome.TheVariants.{Refused}
 
-pub tasks-taken : (n : ℕ) → 1 ≤ n → n ≤ 15 → tasks_in_range n ≡ true
-tasks-taken n a b = rw (le-leb 1 n a, le-leb n most_tasks (omega arith)) refl
+pub tasks_taken : (n : ℕ) → 1 ≤ n → n ≤ 15 → tasks_in_range n ≡ true
+tasks_taken n a b = rw (le-leb 1 n a, le-leb n most_tasks (omega arith)) refl
 
-pub no-task : tasks_in_range 0 ≡ false
-no-task = refl
+pub no_task : tasks_in_range 0 ≡ false
+no_task = refl
 
-pub too-many-tasks : (n : ℕ) → 16 ≤ n → tasks_in_range n ≡ false
-too-many-tasks n a = rw (le-leb 1 n (omega arith), lt-leb n most_tasks (omega arith)) refl
+pub too_many_tasks : (n : ℕ) → 16 ≤ n → tasks_in_range n ≡ false
+too_many_tasks n a = rw (le-leb 1 n (omega arith), lt-leb n most_tasks (omega arith)) refl
 
-pub with-5 : number_of WrongCounts ≡ 5
-with-5 = refl
+pub with_5 : number_of WrongCounts ≡ 5
+with_5 = refl
 
 -- of a table it is asked first, in writing behind the edition e that is told
 abbrev asks_of_table : ℕ → Table → List ℕ → List ℕ → List ℕ → ℕ → ℕ → ℕ → ℕ → List Asks
@@ -38,9 +38,9 @@ asks_of_table e t own catalogue given cabinet line room number =
     next_asks t given room ∷
     regions_asks t own catalogue number ∷ []
 
-pub table-refused : (e : ℕ) (t : Table) → is_edition e ≡ true → tasks_in_range t.n ≡ false → (own catalogue given : List ℕ) (cabinet line room number : ℕ)
+pub table_refused : (e : ℕ) (t : Table) → is_edition e ≡ true → tasks_in_range t.n ≡ false → (own catalogue given : List ℕ) (cabinet line room number : ℕ)
     → map (λ asks. first_of asks) (asks_of_table e t own catalogue given cabinet line room number) ≡ replicate 8 (Refused WrongCounts)
-table-refused e t edition tasks own catalogue given cabinet line room number = rw (edition, tasks) refl
+table_refused e t edition tasks own catalogue given cabinet line room number = rw (edition, tasks) refl
 
 -- what is asked of a file: by itself, to read it, to hand back a record
 abbrev pub asks_of_file : List ℕ → ℕ → ℕ → List ℕ → ℕ → ℕ → List Asks
@@ -48,9 +48,9 @@ asks_of_file f cabinet line catalogue room number =
     file_asks f cabinet line catalogue ∷ read_asks f cabinet line catalogue room ∷ record_asks f cabinet line catalogue number ∷ []
 
 -- of a file it is asked behind 1, 2, 18, 3, 4
-pub file-refused : (f : List ℕ) (cabinet line : ℕ) (catalogue : List ℕ) (room number : ℕ)
+pub file_refused : (f : List ℕ) (cabinet line : ℕ) (catalogue : List ℕ) (room number : ℕ)
     → NoneApplies (take 5 (file_asks f cabinet line catalogue))
     → tasks_in_range (tasks_in f) ≡ false
     → map (λ asks. first_of asks) (asks_of_file f cabinet line catalogue room number) ≡ replicate 3 (Refused WrongCounts)
-file-refused f cabinet line catalogue room number clear e =
+file_refused f cabinet line catalogue room number clear e =
     rw (clear.0, clear.1.0, clear.1.1.0, clear.1.1.1.0, clear.1.1.1.1.0, e) refl

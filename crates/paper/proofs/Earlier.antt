@@ -31,29 +31,29 @@ earlier_times t =
 abbrev time_only : Response → Time
 time_only r = r.time
 
-replicate-times : (n : ℕ) (r : Response) → map time_only (replicate n r) ≡ replicate n r.time
-replicate-times zero r = refl
-replicate-times (suc n) r = ap (λ ts. r.time ∷ ts) (replicate-times n r)
+replicate_times : (n : ℕ) (r : Response) → map time_only (replicate n r) ≡ replicate n r.time
+replicate_times zero r = refl
+replicate_times (suc n) r = ap (λ ts. r.time ∷ ts) (replicate_times n r)
 
-list-times : (n : ℕ) (f : ℕ → Response) → map time_only (list_to n f) ≡ list_to n (λ i. (f i).time)
+list_times : (n : ℕ) (f : ℕ → Response) → map time_only (list_to n f) ≡ list_to n (λ i. (f i).time)
 unfolding list_to
-list-times zero f = refl
-list-times (suc n) f = map-append time_only (list_to n f) (f n ∷ []) ∙ ap (λ ts. ts ++ ((f n).time ∷ [])) (list-times n f)
+list_times zero f = refl
+list_times (suc n) f = map-append time_only (list_to n f) (f n ∷ []) ∙ ap (λ ts. ts ++ ((f n).time ∷ [])) (list_times n f)
 
-per-task-times : (n : ℕ) (f : ℕ → Response) (r : Response) → map time_only (per_task n f r) ≡ per_task n (λ i. (f i).time) r.time
+per_task_times : (n : ℕ) (f : ℕ → Response) (r : Response) → map time_only (per_task n f r) ≡ per_task n (λ i. (f i).time) r.time
 unfolding per_task
-per-task-times n f r =
-    map-append time_only (list_to n f) (replicate (most_tasks - n) r) ∙ ap₂ (λ ts us. ts ++ us) (list-times n f) (replicate-times (most_tasks - n) r)
+per_task_times n f r =
+    map-append time_only (list_to n f) (replicate (most_tasks - n) r) ∙ ap₂ (λ ts us. ts ++ us) (list_times n f) (replicate_times (most_tasks - n) r)
 
 -- the outcome, and every time, as they were
-pub times-stand : (t : Table) → ((times_answer t).outcome ≡ first_of (times_asks t)) × (map time_only (times_answer t).times ≡ earlier_times t)
+pub times_stand : (t : Table) → ((times_answer t).outcome ≡ first_of (times_asks t)) × (map time_only (times_answer t).times ≡ earlier_times t)
 unfolding with_job
-times-stand t = (refl, go (first_of (times_asks t)))
+times_stand t = (refl, go (first_of (times_asks t)))
   where
     go : (o : Outcome) → map time_only (when_done o (per_task t.n (time_of t) no_time) (replicate most_tasks no_time))
         ≡ when_done o (per_task t.n (λ i. (time_of t i).time) (At 0)) (replicate most_tasks (At 0))
-    go Done = per-task-times t.n (time_of t) no_time
-    go (Refused r) = replicate-times most_tasks no_time
+    go Done = per_task_times t.n (time_of t) no_time
+    go (Refused r) = replicate_times most_tasks no_time
 
 -- An assignment passes when every R(i) exists and R(i) ≤ D(i)
 abbrev pub task_passed : Tasks → Assignment → ℕ → Bool
@@ -62,9 +62,9 @@ task_passed y a i = within (response y (standing y a i) i) (y.d i)
 abbrev pub passed : Tasks → Assignment → Bool
 passed y a = every y.n (task_passed y a)
 
-pub passes-stand : (y : Tasks) (a : Assignment) → passes y a ≡ passed y a
+pub passes_stand : (y : Tasks) (a : Assignment) → passes y a ≡ passed y a
 unfolding passes task_passes with_job
-passes-stand y a = refl
+passes_stand y a = refl
 
 -- a well-formed row that passes the response test
 pub record PassedRow (y : Tasks) (row : List ℕ) : Type 0 where
@@ -91,33 +91,33 @@ SaysPassed Done y given out out' answer = ListsPassed y given out out' answer
 SaysPassed (Refused r) y given out out' answer = (answer ≡ Row.Refused r) × (out' ≡ out)
 
 module _ (y : Tasks) where
-  was-passing : (row : List ℕ) → Passing y row → PassedRow y row
-  was-passing row p = record { form = p.form; pass = sym (passes-stand y (row_assignment y.n row)) ∙ p.pass }
+  was_passing : (row : List ℕ) → Passing y row → PassedRow y row
+  was_passing row p = record { form = p.form; pass = sym (passes_stand y (row_assignment y.n row)) ∙ p.pass }
 
-  is-passing : (row : List ℕ) → PassedRow y row → Passing y row
-  is-passing row p = record { form = p.form; pass = passes-stand y (row_assignment y.n row) ∙ p.pass }
+  is_passing : (row : List ℕ) → PassedRow y row → Passing y row
+  is_passing row p = record { form = p.form; pass = passes_stand y (row_assignment y.n row) ∙ p.pass }
 
-  lists-stand : (given out out' : List ℕ) (answer : RowAnswer) → Lists y given out out' answer ↔ ListsPassed y given out out' answer
+  lists_stand : (given out out' : List ℕ) (answer : RowAnswer) → Lists y given out out' answer ↔ ListsPassed y given out out' answer
   unfolding Lists Ended
-  lists-stand given out out' Row.Row = (
-    λ v. (record { passing = was-passing _ v.0.passing; after = v.0.after; first = λ r p. v.0.first r (is-passing r p) }, v.1),
-    λ v. (record { passing = is-passing _ v.0.passing; after = v.0.after; first = λ r p. v.0.first r (was-passing r p) }, v.1),
+  lists_stand given out out' Row.Row = (
+    λ v. (record { passing = was_passing _ v.0.passing; after = v.0.after; first = λ r p. v.0.first r (is_passing r p) }, v.1),
+    λ v. (record { passing = is_passing _ v.0.passing; after = v.0.after; first = λ r p. v.0.first r (was_passing r p) }, v.1),
   )
-  lists-stand given out out' Row.End = (λ v. (λ r p. v.0 r (is-passing r p), v.1), λ v. (λ r p. v.0 r (was-passing r p), v.1))
-  lists-stand given out out' (Row.Refused r) = (λ v. v, λ v. v)
+  lists_stand given out out' Row.End = (λ v. (λ r p. v.0 r (is_passing r p), v.1), λ v. (λ r p. v.0 r (was_passing r p), v.1))
+  lists_stand given out out' (Row.Refused r) = (λ v. v, λ v. v)
 
-  says-stand : (o : Outcome) (given out out' : List ℕ) (answer : RowAnswer) → Says o y given out out' answer ↔ SaysPassed o y given out out' answer
+  says_stand : (o : Outcome) (given out out' : List ℕ) (answer : RowAnswer) → Says o y given out out' answer ↔ SaysPassed o y given out out' answer
   unfolding Says
-  says-stand Done given out out' answer = lists-stand given out out' answer
-  says-stand (Refused r) given out out' answer = (λ v. v, λ v. v)
+  says_stand Done given out out' answer = lists_stand given out out' answer
+  says_stand (Refused r) given out out' answer = (λ v. v, λ v. v)
 
 -- what the listing answers, and what its buffer holds, from the start and from a given row
-pub first-stands : (t : Table) (out out' : List ℕ) (answer : RowAnswer)
+pub first_stands : (t : Table) (out out' : List ℕ) (answer : RowAnswer)
     → FirstSays t out out' answer ↔ SaysPassed (first_of (first_asks t (length out))) (tasks_of t.records t.n) [] out out' answer
 unfolding FirstSays
-first-stands t out out' answer = says-stand _ _ [] out out' answer
+first_stands t out out' answer = says_stand _ _ [] out out' answer
 
-pub next-stands : (t : Table) (given out out' : List ℕ) (answer : RowAnswer)
+pub next_stands : (t : Table) (given out out' : List ℕ) (answer : RowAnswer)
     → NextSays t given out out' answer ↔ SaysPassed (first_of (next_asks t given (length out))) (tasks_of t.records t.n) given out out' answer
 unfolding NextSays
-next-stands t given out out' answer = says-stand _ _ given out out' answer
+next_stands t given out out' answer = says_stand _ _ given out out' answer

@@ -17,8 +17,8 @@ pub record Head (f : List ℕ) : Type 0 where
   pub tasks : tasks_in f ≡ field f 48 8
   pub words : words_in f ≡ field f 56 8
 
-pub head-places : (f : List ℕ) → Head f
-head-places f = record { edition = refl; spare = refl; cabinet = refl; line = refl; tasks = refl; words = refl }
+pub head_places : (f : List ℕ) → Head f
+head_places f = record { edition = refl; spare = refl; cabinet = refl; line = refl; tasks = refl; words = refl }
 
 -- A record that begins at bit `at`, in both editions (e is the edition): its fields, and the last, its spare bits
 module _ (f : List ℕ) (e at : ℕ) where
@@ -29,11 +29,11 @@ module _ (f : List ℕ) (e at : ℕ) where
   abbrev fields : Bool → List ℕ
   fields b = fields_at f at (used_widths ++ cond b (20 ∷ 10 ∷ []) (6 ∷ []))
 
-  jitter-place : (b : Bool) → cond b (get_or (fields b) 9 0) 0 ≡ cond b (field_from 90 20) 0
-  jitter-place true = simp add_assoc
-  jitter-place false = refl
+  jitter_place : (b : Bool) → cond b (get_or (fields b) 9 0) 0 ≡ cond b (field_from 90 20) 0
+  jitter_place true = simp add_assoc
+  jitter_place false = refl
 
-  pub record-places : record_from e (fields_at f at (record_widths e)) ≡ record {
+  pub record_places : record_from e (fields_at f at (record_widths e)) ≡ record {
     cost = field f at 20;
     period = field_from 20 20;
     deadline = field_from 40 20;
@@ -45,10 +45,10 @@ module _ (f : List ℕ) (e at : ℕ) where
     name = field_from 83 7;
     jitter = in_edition e 0 (field_from 90 20);
   }
-  record-places = rw (← jitter-place (eqb e 2)) (simp add_assoc)
+  record_places = rw (← jitter_place (eqb e 2)) (simp add_assoc)
 
-  pub spare-place : spare_from e (fields_at f at (record_widths e)) ≡ in_edition e (field_from 90 6) (field_from 110 10)
-  spare-place = go (eqb e 2)
+  pub spare_place : spare_from e (fields_at f at (record_widths e)) ≡ in_edition e (field_from 90 6) (field_from 110 10)
+  spare_place = go (eqb e 2)
     where
       go : (b : Bool) → cond b (get_or (fields b) 10 0) (get_or (fields b) 9 0) ≡ cond b (field_from 110 10) (field_from 90 6)
       go true = simp add_assoc

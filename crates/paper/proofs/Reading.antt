@@ -15,7 +15,7 @@ use Rattle.paper.specs.Answers.{read_outcome}
 use Rattle.paper.specs.declared.Outcome.TheVariants.{Done}
 use Rattle.paper.proofs.Tests.{both, neither, ◌and◌, within}
 use Rattle.paper.proofs.Asks.{done_none, none_done}
-use Rattle.paper.proofs.Plates.{plate-says}
+use Rattle.paper.proofs.Plates.{plate_says}
 
 -- What is known of a file that was read for a cabinet and a line, with a catalogue, into room for so many words.
 pub record Loaded (f : List ℕ) (cabinet line : ℕ) (catalogue : List ℕ) (room : ℕ) : Type 0 where
@@ -25,8 +25,8 @@ pub record Loaded (f : List ℕ) (cabinet line : ℕ) (catalogue : List ℕ) (ro
   pub cabinets : cabinet_in f ≡ cabinet
   pub lines : line_in f ≡ line
   pub plated : blank cabinet line ≡ false
-  pub some-tasks : 1 ≤ tasks_in f
-  pub few-tasks : tasks_in f ≤ most_tasks
+  pub some_tasks : 1 ≤ tasks_in f
+  pub few_tasks : tasks_in f ≤ most_tasks
   pub few_words : words_in f ≤ most_words
   pub size : length f ≡ file_length (edition_in f) (tasks_in f) (words_in f)
   pub seal : sealed f (length f - 2) ≡ true
@@ -38,8 +38,8 @@ pub record Loaded (f : List ℕ) (cabinet line : ℕ) (catalogue : List ℕ) (ro
 
 module _ (f : List ℕ) (cabinet line : ℕ) (catalogue : List ℕ) (room : ℕ) where
   -- What was read is as it should be.
-  pub read-says : read_outcome f cabinet line catalogue room ≡ Done → Loaded f cabinet line catalogue room
-  read-says e =
+  pub read_says : read_outcome f cabinet line catalogue room ≡ Done → Loaded f cabinet line catalogue room
+  read_says e =
       let a1 = done_none (read_asks f cabinet line catalogue room) e in
       let a2 = a1.1 in
       let a18 = a2.1 in
@@ -61,8 +61,8 @@ module _ (f : List ℕ) (cabinet line : ℕ) (catalogue : List ℕ) (room : ℕ)
         cabinets = eqb-true (cabinet_in f) cabinet (not-false _ a3.0);
         lines = eqb-true (line_in f) line (not-false _ a4.0);
         plated = (neither (blank (cabinet_in f) (line_in f)) (blank cabinet line) a18.0).1;
-        some-tasks = tasks.0;
-        few-tasks = tasks.1;
+        some_tasks = tasks.0;
+        few_tasks = tasks.1;
         few_words = leb-true (words_in f) most_words counts.1;
         size = eqb-true (length f) (file_length (edition_in f) (tasks_in f) (words_in f)) (not-false _ a6.0);
         seal = not-false _ a7.0;
@@ -82,7 +82,7 @@ module _ (f : List ℕ) (cabinet line : ℕ) (catalogue : List ℕ) (room : ℕ)
       and (rw (l.cabinets, l.lines, l.plated))
       and ap not (eq-eqb (cabinet_in f) cabinet l.cabinets)
       and ap not (eq-eqb (line_in f) line l.lines)
-      and (rw (le-leb 1 (tasks_in f) l.some-tasks, le-leb (tasks_in f) most_tasks l.few-tasks, le-leb (words_in f) most_words l.few_words))
+      and (rw (le-leb 1 (tasks_in f) l.some_tasks, le-leb (tasks_in f) most_tasks l.few_tasks, le-leb (words_in f) most_words l.few_words))
       and ap not (eq-eqb (length f) (file_length (edition_in f) (tasks_in f) (words_in f)) l.size)
       and ap not l.seal
       and ap not l.spare
@@ -93,12 +93,12 @@ module _ (f : List ℕ) (cabinet line : ℕ) (catalogue : List ℕ) (room : ℕ)
       and tt)
 
   -- One cabinet, one file: a file whose cabinet or line is not the one on the plate is never loaded.
-  pub one-cabinet : read_outcome f cabinet line catalogue room ≡ Done → (cabinet_in f ≡ cabinet) × (line_in f ≡ line)
-  one-cabinet e = let l = read-says e in (l.cabinets, l.lines)
+  pub one_cabinet : read_outcome f cabinet line catalogue room ≡ Done → (cabinet_in f ≡ cabinet) × (line_in f ≡ line)
+  one_cabinet e = let l = read_says e in (l.cabinets, l.lines)
 
   -- No file is loaded for cabinet 0 or line 0, and none that says either.
-  pub not-blank : read_outcome f cabinet line catalogue room ≡ Done → ((1 ≤ cabinet) × (1 ≤ line)) × ((1 ≤ cabinet_in f) × (1 ≤ line_in f))
-  not-blank e =
-      let l = read-says e in
-      let p = plate-says cabinet line l.plated in
+  pub not_blank : read_outcome f cabinet line catalogue room ≡ Done → ((1 ≤ cabinet) × (1 ≤ line)) × ((1 ≤ cabinet_in f) × (1 ≤ line_in f))
+  not_blank e =
+      let l = read_says e in
+      let p = plate_says cabinet line l.plated in
       (p, rw (l.cabinets, l.lines) p)

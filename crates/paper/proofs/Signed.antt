@@ -57,26 +57,26 @@ pub ≤ℤ-antisym : {a b : ℤ} → a ≤ℤ b → b ≤ℤ a → a ≡ b
 ≤ℤ-antisym {a} {b} h k = equal a b h.le k.le
 
 -- natural numbers among the signed ones
-pub pos-le : {a b : ℕ} → a ≤ b → pos a ≤ℤ pos b
-pos-le {a} {b} h = record { le = le→leb a b h }
+pub pos_le : {a b : ℕ} → a ≤ b → pos a ≤ℤ pos b
+pos_le {a} {b} h = record { le = le→leb a b h }
 
-pub le-pos : {a b : ℕ} → pos a ≤ℤ pos b → a ≤ b
-le-pos {a} {b} h = leb→le a b h.le
+pub le_pos : {a b : ℕ} → pos a ≤ℤ pos b → a ≤ b
+le_pos {a} {b} h = leb→le a b h.le
 
 -- one more than a number that isn't below zero
-pub next-positive : {z : ℤ} → pos 0 ≤ℤ z → pos 1 ≤ℤ (z +ℤ pos 1)
-next-positive {z} h = go z h
+pub next_positive : {z : ℤ} → pos 0 ≤ℤ z → pos 1 ≤ℤ (z +ℤ pos 1)
+next_positive {z} h = go z h
   where
     go : (z : ℤ) → pos 0 ≤ℤ z → pos 1 ≤ℤ (z +ℤ pos 1)
-    go (pos n) h = pos-le (omega arith)
+    go (pos n) h = pos_le (omega arith)
     go (negsuc n) h = absurd h.le
 
 -- the difference of two natural numbers is below zero, or it is not
-pub sub-below : (a b : ℕ) → a < b → sub_ℕ a b ≡ negsuc (b - suc a)
-sub-below a b h = simp (lt-ltb a b h)
+pub sub_below : (a b : ℕ) → a < b → sub_ℕ a b ≡ negsuc (b - suc a)
+sub_below a b h = simp (lt-ltb a b h)
 
-pub sub-above : (a b : ℕ) → b ≤ a → sub_ℕ a b ≡ pos (a - b)
-sub-above a b h = simp (le-ltb a b h)
+pub sub_above : (a b : ℕ) → b ≤ a → sub_ℕ a b ≡ pos (a - b)
+sub_above a b h = simp (le-ltb a b h)
 
 same : (a b c d : ℕ) → (a ≤ b → c ≤ d) → (c ≤ d → a ≤ b) → leb a b ≡ leb c d
 same a b c d h k = go (leb a b) refl (leb c d) refl
@@ -111,11 +111,11 @@ sub_order a b c d = go (ltb a b) refl (ltb c d) refl
 
 -- it is the difference of the signed numbers
 pub sub_is : (a b : ℕ) → pos a -ℤ pos b ≡ sub_ℕ a b
-sub_is a zero = ap pos (omega arith) ∙ sym (sub-above a 0 (omega arith))
+sub_is a zero = ap pos (omega arith) ∙ sym (sub_above a 0 (omega arith))
 sub_is a (suc b) = refl
 
-pub sub-sum : (t c s : ℕ) → pos t -ℤ pos c -ℤ pos s ≡ sub_ℕ t (c + s)
-sub-sum t c s =
+pub sub_sum : (t c s : ℕ) → pos t -ℤ pos c -ℤ pos s ≡ sub_ℕ t (c + s)
+sub_sum t c s =
     +ℤ_assoc (pos t) (neg_ℤ (pos c)) (neg_ℤ (pos s))
     ∙ ap (λ (z : ℤ). pos t +ℤ z) (sym (neg_ℤ-+ℤ (pos c) (pos s)))
     ∙ sub_is t (c + s)

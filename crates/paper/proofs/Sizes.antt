@@ -10,7 +10,7 @@ use Rattle.paper.specs.Numbers.{most_tasks, most_words}
 use Rattle.paper.specs.File.{in_edition, edition_in, file_length, shortest}
 use Rattle.paper.specs.Answers.{read_outcome}
 use Rattle.paper.specs.declared.Outcome.TheVariants.{Done}
-use Rattle.paper.proofs.Reading.{read-says}
+use Rattle.paper.proofs.Reading.{read_says}
 use Rattle.paper.proofs.Editions.{in_either}
 
 pub length_most : (e n m : ℕ) → n ≤ most_tasks → m ≤ most_words → file_length e n m ≤ in_edition e 440 485
@@ -20,32 +20,32 @@ length_most e n m b c = go (eqb e 2)
     go true = omega arith
     go false = omega arith
 
-pub length-bounds : (e n m : ℕ) → 1 ≤ n → n ≤ most_tasks → m ≤ most_words
+pub length_bounds : (e n m : ℕ) → 1 ≤ n → n ≤ most_tasks → m ≤ most_words
     → (in_edition e 22 25 ≤ file_length e n m) × (file_length e n m ≤ in_edition e 440 485)
-length-bounds e n m a b c = (go (eqb e 2), length_most e n m b c)
+length_bounds e n m a b c = (go (eqb e 2), length_most e n m b c)
   where
     go : (two : Bool) → cond two 25 22 ≤ 8 + cond two 15 12 * n + (20 * m + 7) / 8 + 2
     go true = omega arith
     go false = omega arith
 
-pub lengths-reached : (file_length 1 1 0 ≡ shortest) × (file_length 1 most_tasks most_words ≡ 440) × (file_length 2 1 0 ≡ 25) × (file_length 2 most_tasks most_words ≡ 485)
-lengths-reached = (refl, refl, refl, refl)
+pub lengths_reached : (file_length 1 1 0 ≡ shortest) × (file_length 1 most_tasks most_words ≡ 440) × (file_length 2 1 0 ≡ 25) × (file_length 2 most_tasks most_words ≡ 485)
+lengths_reached = (refl, refl, refl, refl)
 
 -- so no file is read that is shorter or longer than its edition allows,
-pub read-bounds : (f : List ℕ) (cabinet line : ℕ) (catalogue : List ℕ) (room : ℕ) → read_outcome f cabinet line catalogue room ≡ Done
+pub read_bounds : (f : List ℕ) (cabinet line : ℕ) (catalogue : List ℕ) (room : ℕ) → read_outcome f cabinet line catalogue room ≡ Done
     → (in_edition (edition_in f) 22 25 ≤ length f) × (length f ≤ in_edition (edition_in f) 440 485)
-read-bounds f cabinet line catalogue room done =
-    let l = read-says f cabinet line catalogue room done in
-    rw l.size (length-bounds (edition_in f) _ _ l.some-tasks l.few-tasks l.few_words)
+read_bounds f cabinet line catalogue room done =
+    let l = read_says f cabinet line catalogue room done in
+    rw l.size (length_bounds (edition_in f) _ _ l.some_tasks l.few_tasks l.few_words)
 
 -- and none that is longer than 485 bytes
-pub length-below : (e n m : ℕ) → n ≤ most_tasks → m ≤ most_words → file_length e n m ≤ 485
-length-below e n m b c =
+pub length_below : (e n m : ℕ) → n ≤ most_tasks → m ≤ most_words → file_length e n m ≤ 485
+length_below e n m b c =
     let most = length_most e n m b c in
     let longest : in_edition e 440 485 ≤ 485 = in_either (λ (x : ℕ). x ≤ 485) e (omega arith) (omega arith) in
     omega arith
 
-pub longest-file : (f : List ℕ) (cabinet line : ℕ) (catalogue : List ℕ) (room : ℕ) → read_outcome f cabinet line catalogue room ≡ Done → length f ≤ 485
-longest-file f cabinet line catalogue room done =
-    let l = read-says f cabinet line catalogue room done in
-    rw l.size (length-below (edition_in f) _ _ l.few-tasks l.few_words)
+pub longest_file : (f : List ℕ) (cabinet line : ℕ) (catalogue : List ℕ) (room : ℕ) → read_outcome f cabinet line catalogue room ≡ Done → length f ≤ 485
+longest_file f cabinet line catalogue room done =
+    let l = read_says f cabinet line catalogue room done in
+    rw l.size (length_below (edition_in f) _ _ l.few_tasks l.few_words)

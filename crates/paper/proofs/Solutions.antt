@@ -35,22 +35,22 @@ solved f from n h = go (least (λ x. eqb x (f x)) from n) refl
 
 module _ (y : Tasks) (s : Standing) where
   -- L(i) is the smallest positive L with L = b + sum over p(j) ≤ p(i) of ceil((L + J(j))/T(j))·C(j)
-  pub level-found : Solved (λ l. s.b + sum_to y.n (λ j. cond (s.level j) (ceil_div (l + y.j j) (y.t j) * y.c j) 0)) 1 (level_of y s)
+  pub level_found : Solved (λ l. s.b + sum_to y.n (λ j. cond (s.level j) (ceil_div (l + y.j j) (y.t j) * y.c j) 0)) 1 (level_of y s)
   unfolding level_of level_sum load before
-  level-found = solved _ 1 horizon refl
+  level_found = solved _ 1 horizon refl
 
   module _ (i : ℕ) where
     -- Start S: the smallest S ≥ 0 with S = b + k·C(i) + sum over p(j) < p(i) of (1 + floor((S + J(j))/T(j)))·C(j)
-    pub start-found : (k : ℕ)
+    pub start_found : (k : ℕ)
         → Solved (λ v. s.b + k * y.c i + sum_to y.n (λ j. cond (s.above j) ((1 + (v + y.j j) / y.t j) * y.c j) 0)) 0 (start_of y s i k)
     unfolding start_of start_sum load by
-    start-found k = solved _ 0 (horizon + 1) refl
+    start_found k = solved _ 0 (horizon + 1) refl
 
     -- Finish F: the smallest F > S with F = S + C(i) + sum over p(j) < h(i) of (ceil((F + J(j))/T(j)) − (1 + floor((S + J(j))/T(j))))·C(j)
-    pub finish-found : (v : ℕ) → v ≤ horizon
+    pub finish_found : (v : ℕ) → v ≤ horizon
         → Solved (λ f. v + y.c i + sum_to y.n (λ j. cond (s.cuts j) ((ceil_div (f + y.j j) (y.t j) - (1 + (v + y.j j) / y.t j)) * y.c j) 0)) (v + 1) (finish_of y s i v)
     unfolding finish_of finish_sum load before by
-    finish-found v h = solved _ (v + 1) (horizon - v) (omega arith)
+    finish_found v h = solved _ (v + 1) (horizon - v) (omega arith)
 
   -- jobs k run from 0 to ceil((L + J(i))/T(i)) − 1: how many these are, in R (Responses.antt) and where the worst job is told
   pub job-count : (i l : ℕ) → before y l i ≡ ceil_div (l + y.j i) (y.t i)

@@ -16,13 +16,13 @@ use Rattle.paper.specs.declared.Outcome.TheVariants.{Done}
 use Rattle.paper.specs.declared.Table.{Table}
 use Rattle.paper.proofs.Tests.{both, ◌and◌, within}
 use Rattle.paper.proofs.Asks.{done_none, none_done}
-use Rattle.paper.proofs.Plates.{plate-says}
+use Rattle.paper.proofs.Plates.{plate_says}
 
 -- What is known of a table that is written as edition e for a cabinet and a line, with its region words and a catalogue, into room for so many bytes.
 pub record Taken (e : ℕ) (t : Table) (cabinet line : ℕ) (own catalogue : List ℕ) (room : ℕ) : Type 0 where
   pub edition : is_edition e ≡ true
-  pub some-tasks : 1 ≤ t.n
-  pub few-tasks : t.n ≤ most_tasks
+  pub some_tasks : 1 ≤ t.n
+  pub few_tasks : t.n ≤ most_tasks
   pub few_words : length own ≤ most_words
   pub plated : blank cabinet line ≡ false
   pub cabinets : cabinet ≤ most_cabinet
@@ -33,8 +33,8 @@ pub record Taken (e : ℕ) (t : Table) (cabinet line : ℕ) (own catalogue : Lis
   pub fits : file_length e t.n (length own) ≤ room
 
 module _ (e : ℕ) (t : Table) (cabinet line : ℕ) (own catalogue : List ℕ) (room : ℕ) where
-  pub write-says : write_outcome e t cabinet line own catalogue room ≡ Done → Taken e t cabinet line own catalogue room
-  write-says done =
+  pub write_says : write_outcome e t cabinet line own catalogue room ≡ Done → Taken e t cabinet line own catalogue room
+  write_says done =
       let a2 = done_none (write_asks e t cabinet line own catalogue room) done in
       let a5 = a2.1 in
       let a18 = a5.1 in
@@ -47,8 +47,8 @@ module _ (e : ℕ) (t : Table) (cabinet line : ℕ) (own catalogue : List ℕ) (
       let numbers = both (leb cabinet most_cabinet) (records_in_range t.records t.n) (not-false _ a9.0) in
       record {
         edition = not-false _ a2.0;
-        some-tasks = tasks.0;
-        few-tasks = tasks.1;
+        some_tasks = tasks.0;
+        few_tasks = tasks.1;
         few_words = leb-true (length own) most_words counts.1;
         plated = a18.0;
         cabinets = leb-true cabinet most_cabinet numbers.0;
@@ -63,7 +63,7 @@ module _ (e : ℕ) (t : Table) (cabinet line : ℕ) (own catalogue : List ℕ) (
   write_done w =
       none_done (write_asks e t cabinet line own catalogue room)
       (ap not w.edition
-      and (rw (le-leb 1 t.n w.some-tasks, le-leb t.n most_tasks w.few-tasks, le-leb (length own) most_words w.few_words))
+      and (rw (le-leb 1 t.n w.some_tasks, le-leb t.n most_tasks w.few_tasks, le-leb (length own) most_words w.few_words))
       and w.plated
       and (rw (le-leb cabinet most_cabinet w.cabinets) (ap not w.ranges))
       and ap not w.assignment
@@ -73,5 +73,5 @@ module _ (e : ℕ) (t : Table) (cabinet line : ℕ) (own catalogue : List ℕ) (
       and tt)
 
   -- No file is written for cabinet 0 or line 0.
-  pub not-blank : write_outcome e t cabinet line own catalogue room ≡ Done → (1 ≤ cabinet) × (1 ≤ line)
-  not-blank done = plate-says cabinet line (write-says done).plated
+  pub not_blank : write_outcome e t cabinet line own catalogue room ≡ Done → (1 ≤ cabinet) × (1 ≤ line)
+  not_blank done = plate_says cabinet line (write_says done).plated

@@ -26,8 +26,8 @@ line = declared L.the_field L'.the_field_laws L'.the_field_copy L'.lowers
 abbrev pub table : Data T.the_row
 table = declared T.the_field T'.the_field_laws T'.the_field_copy T'.lowers
 
-abbrev pub bytes-part : Pair B.the_row O.the_row u8
-bytes-part = record {
+abbrev pub bytes_part : Pair B.the_row O.the_row u8
+bytes_part = record {
   made = λ a o b. record { outcome = o; bytes = b };
   fst = λ a r. r.outcome;
   snd = λ a r. r.bytes;
@@ -35,8 +35,8 @@ bytes-part = record {
   takes = λ a r w. refl;
 }
 
-abbrev pub words-part : Pair W.the_row O.the_row u32
-words-part = record {
+abbrev pub words_part : Pair W.the_row O.the_row u32
+words_part = record {
   made = λ a o b. record { outcome = o; words = b };
   fst = λ a r. r.outcome;
   snd = λ a r. r.words;

@@ -18,9 +18,9 @@ use Rattle.paper.specs.Answers.{name_outcome}
 use Rattle.paper.proofs.Asks.{clear}
 use Rattle.parts.specs.Parts.{IsPart, IsName}
 
-pub entry-inside : (number : ℕ) (cabinet house : List ℕ) → Done ≡ name_outcome number cabinet house
+pub entry_inside : (number : ℕ) (cabinet house : List ℕ) → Done ≡ name_outcome number cabinet house
     → name_start number + name_width ≤ length (name_list number cabinet house)
-entry-inside number cabinet house e =
+entry_inside number cabinet house e =
     let outside = ltb (length (name_list number cabinet house)) (name_start number + name_width) in
     ltb-false _ _ (clear outside NoSuchPart Done (clear (ltb most_name number) OutOfRange _ (sym e)).1).0
 
@@ -29,21 +29,21 @@ module _ (number : ℕ) (cabinet house list r : Bor (List ℕ))
   abbrev o : Outcome
   o = name_outcome number cabinet.now house.now
 
-  pub name-refused : (x : Refusal) → Refused x ≡ o → IsPart list 1 no_part r → IsName number cabinet house r
-  name-refused x e cut = record { bytes = rw (← e) cut.contents; place = rw (← e, ← chosen) cut.place }
+  pub name_refused : (x : Refusal) → Refused x ≡ o → IsPart list 1 no_part r → IsName number cabinet house r
+  name_refused x e cut = record { bytes = rw (← e) cut.contents; place = rw (← e, ← chosen) cut.place }
 
   pub name_done : (at stay : ℕ) → Done ≡ o → at ≡ name_start number → stay ≡ trimmed list.now at name_width
       → IsPart list 1 (record { from = at; count = stay }) r → IsName number cabinet house r
   name_done at stay e ea es cut = record { bytes = rw (← e, ← holds, ← ea, ← es) cut.contents; place = rw (← e, ← holds, ← ea, ← es, ← chosen) cut.place }
 
 -- the last of the bytes that are left is a space, or isn't, or there is none
-pub space-goes : (s : List ℕ) (at last stay : ℕ) → last + 1 ≡ stay → get_or s (at + last) 0 ≡ 32 → trimmed s at stay ≡ trimmed s at last
+pub space_goes : (s : List ℕ) (at last stay : ℕ) → last + 1 ≡ stay → get_or s (at + last) 0 ≡ 32 → trimmed s at stay ≡ trimmed s at last
 unfolding trimmed
-space-goes s at last stay e h = rw (← e, add-one last, eq-eqb (get_or s (at + last) 0) 32 h)
+space_goes s at last stay e h = rw (← e, add-one last, eq-eqb (get_or s (at + last) 0) 32 h)
 
-pub name-ends : (s : List ℕ) (at last stay : ℕ) → last + 1 ≡ stay → (get_or s (at + last) 0 ≡ 32 → ⊥) → trimmed s at stay ≡ stay
+pub name_ends : (s : List ℕ) (at last stay : ℕ) → last + 1 ≡ stay → (get_or s (at + last) 0 ≡ 32 → ⊥) → trimmed s at stay ≡ stay
 unfolding trimmed
-name-ends s at last stay e h = rw (← e, add-one last, ne_eqb (get_or s (at + last) 0) 32 h)
+name_ends s at last stay e h = rw (← e, add-one last, ne_eqb (get_or s (at + last) 0) 32 h)
 
 pub none_left : (s : List ℕ) (at stay : ℕ) → stay ≡ 0 → trimmed s at stay ≡ stay
 unfolding trimmed

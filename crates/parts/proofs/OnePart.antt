@@ -17,9 +17,9 @@ module _ {r t : Bor (List ℕ)} where
   pub one_name : {number : ℕ} {cabinet house : Bor (List ℕ)} → IsName number cabinet house r → IsName number cabinet house t → Same r t
   one_name x y = (x.bytes ∙ sym y.bytes, one_place x.place y.place)
 
-  pub one-regions : {t' : Table} {own catalogue : Bor (List ℕ)} {number : ℕ} → AreRegions t' own catalogue number r → AreRegions t' own catalogue number t → Same r t
-  one-regions x y = (x.words ∙ sym y.words, one_place x.place y.place)
+  pub one_regions : {t' : Table} {own catalogue : Bor (List ℕ)} {number : ℕ} → AreRegions t' own catalogue number r → AreRegions t' own catalogue number t → Same r t
+  one_regions x y = (x.words ∙ sym y.words, one_place x.place y.place)
 
-  pub one-record : {file : Bor (List ℕ)} {cabinet line : ℕ} {catalogue : List ℕ} {number : ℕ}
+  pub one_record : {file : Bor (List ℕ)} {cabinet line : ℕ} {catalogue : List ℕ} {number : ℕ}
       → IsRecord file cabinet line catalogue number r → IsRecord file cabinet line catalogue number t → Same r t
-  one-record x y = (x.bytes ∙ sym y.bytes, one_place x.place y.place)
+  one_record x y = (x.bytes ∙ sym y.bytes, one_place x.place y.place)

@@ -17,14 +17,14 @@ use Rattle.paper.specs.Regions.{no_part, list_of, record_regions_hold, regions_p
 use Rattle.paper.specs.Answers.{regions_outcome}
 use Rattle.paper.proofs.Tests.{within}
 use Rattle.paper.proofs.Asks.{met}
-use Rattle.paper.proofs.Points.{regions-say}
-use Rattle.checks.proofs.Meaning.{counts-say}
+use Rattle.paper.proofs.Points.{regions_say}
+use Rattle.checks.proofs.Meaning.{counts_say}
 use Rattle.parts.specs.Parts.{IsPart, slice_of, AreRegions}
 
 pub numbered : (n m number : ℕ) → counts_in_range n m ≡ true → (leb 1 number && leb number n) ≡ true → (1 ≤ number) × (number ≤ most_tasks)
 numbered n m number counts named =
     let p = within 1 n number named in
-    let most = (counts-say n m counts).tasks in
+    let most = (counts_say n m counts).tasks in
     (p.0, omega arith)
 
 -- what is known once none of the three asks applies
@@ -45,16 +45,16 @@ module _ (t : Table) (own catalogue : List ℕ) (number : ℕ) (e : Done ≡ reg
   in_table = numbered t.n (length own) number facts.counts facts.named
 
   pub in_list : let r = rec t.records (number - 1) in r.first + r.count ≤ length (list_of r.source own catalogue)
-  in_list = (regions-say _ _ _ _ facts.hold).inside
+  in_list = (regions_say _ _ _ _ facts.hold).inside
 
 module _ (t : Table) (own catalogue : Bor (List ℕ)) (number : ℕ) (r : Bor (List ℕ)) where
   abbrev o : Outcome
   o = regions_outcome t own.now catalogue.now number
 
-  pub regions-refused : (x : Refusal) → Refused x ≡ o → IsPart own 4 no_part r → AreRegions t own catalogue number r
-  regions-refused x e cut = record { words = rw (← e) cut.contents; place = rw (← e) cut.place }
+  pub regions_refused : (x : Refusal) → Refused x ≡ o → IsPart own 4 no_part r → AreRegions t own catalogue number r
+  regions_refused x e cut = record { words = rw (← e) cut.contents; place = rw (← e) cut.place }
 
-  pub regions-done : (found : Record) (list : Bor (List ℕ)) → Done ≡ o → found ≡ rec t.records (number - 1)
+  pub regions_done : (found : Record) (list : Bor (List ℕ)) → Done ≡ o → found ≡ rec t.records (number - 1)
       → list ≡ slice_of found.source own catalogue → list.now ≡ list_of found.source own.now catalogue.now
       → IsPart list 4 (regions_part found) r → AreRegions t own catalogue number r
-  regions-done found list e ef el en cut = record { words = rw (← e, ← ef, ← en) cut.contents; place = rw (← e, ← ef, ← el) cut.place }
+  regions_done found list e ef el en cut = record { words = rw (← e, ← ef, ← en) cut.contents; place = rw (← e, ← ef, ← el) cut.place }

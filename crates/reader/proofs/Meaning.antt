@@ -7,13 +7,13 @@ use borrow.Author.Tests.{le-ltb}
 use Rattle.paper.specs.File.{words_in}
 use Rattle.paper.specs.Refusals.{first_of, no_room, file_asks}
 use Rattle.paper.specs.declared.Outcome.TheVariants.{Done}
-use Rattle.paper.proofs.Reading.{Loaded, read-says}
-use Rattle.checks.proofs.Asks.{first-passed}
+use Rattle.paper.proofs.Reading.{Loaded, read_says}
+use Rattle.checks.proofs.Asks.{first_passed}
 
 module _ (f : List ℕ) (cabinet line : ℕ) (catalogue : List ℕ) where
   -- All is known of the file that is known of one that was read, with room for its own words.
-  pub file-says : first_of (file_asks f cabinet line catalogue) ≡ Done → Loaded f cabinet line catalogue (words_in f)
-  file-says e =
-      read-says f cabinet line catalogue (words_in f)
-      (first-passed (file_asks f cabinet line catalogue) (no_room (words_in f) (words_in f) ∷ []) e
+  pub file_says : first_of (file_asks f cabinet line catalogue) ≡ Done → Loaded f cabinet line catalogue (words_in f)
+  file_says e =
+      read_says f cabinet line catalogue (words_in f)
+      (first_passed (file_asks f cabinet line catalogue) (no_room (words_in f) (words_in f) ∷ []) e
       ∙ rw (le-ltb (words_in f) (words_in f) (omega arith)))

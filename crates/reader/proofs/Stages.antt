@@ -18,10 +18,10 @@ use Rattle.paper.specs.declared.Outcome.{Outcome}
 use Rattle.paper.specs.declared.Outcome.TheVariants.{Done, Refused}
 use Rattle.paper.specs.declared.ReadAnswer.{ReadAnswer}
 use Rattle.paper.proofs.Asks.{done_none}
-use Rattle.checks.proofs.Asks.{first-passed, first-refused, first_done}
-use Rattle.checks.proofs.Meaning.{counts-say}
+use Rattle.checks.proofs.Asks.{first_passed, first_refused, first_done}
+use Rattle.checks.proofs.Meaning.{counts_say}
 use Rattle.unpack.specs.Unpack.{Sized}
-use Rattle.unpack.proofs.Words.{words-length}
+use Rattle.unpack.proofs.Words.{words_length}
 use Rattle.file_head.specs.Asks.{head_asks}
 use Rattle.reader.specs.Stages.{body_asks, Unpacked}
 
@@ -32,19 +32,19 @@ unpacked_asks f e n m rs own catalogue room =
     (SpareBitSet, not (spare_clear f e n m)) ∷
     out_of_range rs n ∷ bad_assignment rs n ∷ bad_regions rs n own catalogue ∷ no_room room m ∷ []
 
-pub body-asked : (f catalogue : List ℕ) (room : ℕ) {e n m : ℕ} {rs : List Record} {own : List ℕ} {x : Outcome} → Unpacked f e n m rs own
+pub body_asked : (f catalogue : List ℕ) (room : ℕ) {e n m : ℕ} {rs : List Record} {own : List ℕ} {x : Outcome} → Unpacked f e n m rs own
     → x ≡ first_of (unpacked_asks f e n m rs own catalogue room) → x ≡ first_of (body_asks f catalogue room)
-body-asked f catalogue room u q = q ∙ rw (u.records, u.regions, u.edition, u.tasks, u.words)
+body_asked f catalogue room u q = q ∙ rw (u.records, u.regions, u.edition, u.tasks, u.words)
 
 -- What was unpacked: the own words are few enough to be asked.
-pub own-few : {f : List ℕ} {e n m : ℕ} {rs : List Record} {own : List ℕ} → Unpacked f e n m rs own → length own ≤ most_words
-own-few {f} {e} {n} {m} u = rw (u.regions, words-length f e n m) u.sized.words
+pub own_few : {f : List ℕ} {e n m : ℕ} {rs : List Record} {own : List ℕ} → Unpacked f e n m rs own → length own ≤ most_words
+own_few {f} {e} {n} {m} u = rw (u.regions, words_length f e n m) u.sized.words
 
 -- Once the head passes, the counts and the length fit.
-pub head-says : (f : List ℕ) (cabinet line : ℕ) → first_of (head_asks f cabinet line) ≡ Done → Sized f (edition_in f) (tasks_in f) (words_in f)
-head-says f cabinet line e =
+pub head_says : (f : List ℕ) (cabinet line : ℕ) → first_of (head_asks f cabinet line) ≡ Done → Sized f (edition_in f) (tasks_in f) (words_in f)
+head_says f cabinet line e =
     let asks = (done_none (head_asks f cabinet line) e).1.1.1.1.1 in
-    let counts = counts-say (tasks_in f) (words_in f) (not-false _ asks.0) in
+    let counts = counts_say (tasks_in f) (words_in f) (not-false _ asks.0) in
     record {
       tasks = counts.tasks;
       words = counts.words;
@@ -56,7 +56,7 @@ pub room_fits : (f catalogue : List ℕ) (room : ℕ) {e n m : ℕ} {rs : List R
     → o ≡ first_of (body_asks f catalogue room) → o ≡ Done → length own ≤ room
 room_fits f catalogue room {e} {n} {m} u q k =
     let h = ltb-false room (words_in f) (done_none (body_asks f catalogue room) (sym q ∙ k)).1.1.1.1.1.0 in
-    rw (u.regions, words-length f e n m, u.words) h
+    rw (u.regions, words_length f e n m, u.words) h
 
 -- The outcome o was found. A refusal is the whole answer, and the output stays.
 pub turned-away : (o : Outcome) (f out : List ℕ) {r : Refusal} {x : Outcome} {a : ReadAnswer} → x ≡ o → x ≡ Refused r
@@ -70,40 +70,40 @@ pub answered : (o : Outcome) (f out : List ℕ) (e n m : ℕ) (t : Table) (own :
 answered o f out e n m t own {out' = out'} q k u s h =
     let tasks : t.n ≡ tasks_in f = s ∙ u.tasks in
     let records : t.records ≡ (table_in f).records = u.records ∙ ap₂ (records_in f) u.edition u.tasks in
-    let words : out' ≡ own_words f ++ drop (words_in f) out = h ∙ rw (u.regions, words-length f e n m, u.edition, u.tasks, u.words) in
+    let words : out' ≡ own_words f ++ drop (words_in f) out = h ∙ rw (u.regions, words_length f e n m, u.edition, u.tasks, u.words) in
     rw (← q, k)
     (λ i. record { outcome = Done; edition = u.edition i; table = record { n = tasks i; records = records i }; words = u.words i }, words)
 
 -- The head turns the file away, or the rest has the answer.
-pub read-stops : (f : List ℕ) (cabinet line : ℕ) (catalogue out : List ℕ) (r : Refusal) {o : Outcome} {a : ReadAnswer}
+pub read_stops : (f : List ℕ) (cabinet line : ℕ) (catalogue out : List ℕ) (r : Refusal) {o : Outcome} {a : ReadAnswer}
     → o ≡ first_of (head_asks f cabinet line) → o ≡ Refused r → (a.outcome ≡ Refused r) × (a.edition ≡ 0) × (a.table ≡ no_table) × (a.words ≡ 0)
     → (a ≡ read_answer f cabinet line catalogue out) × (out ≡ read_out f cabinet line catalogue out)
-read-stops f cabinet line catalogue out r e k h =
+read_stops f cabinet line catalogue out r e k h =
     turned-away (first_of (read_asks f cabinet line catalogue (length out))) f out refl
-    (first-refused (head_asks f cabinet line) (body_asks f catalogue (length out)) r (sym e ∙ k)) h
+    (first_refused (head_asks f cabinet line) (body_asks f catalogue (length out)) r (sym e ∙ k)) h
 
-pub read-goes-on : (f : List ℕ) (cabinet line : ℕ) (catalogue out : List ℕ) {o : Outcome} {a : ReadAnswer} {x : List ℕ}
+pub read_goes_on : (f : List ℕ) (cabinet line : ℕ) (catalogue out : List ℕ) {o : Outcome} {a : ReadAnswer} {x : List ℕ}
     → o ≡ first_of (head_asks f cabinet line) → o ≡ Done
     → (a ≡ table_for (first_of (body_asks f catalogue (length out))) f) × (x ≡ words_for (first_of (body_asks f catalogue (length out))) f out)
     → (a ≡ read_answer f cabinet line catalogue out) × (x ≡ read_out f cabinet line catalogue out)
-read-goes-on f cabinet line catalogue out e k h =
+read_goes_on f cabinet line catalogue out e k h =
     let s : first_of (read_asks f cabinet line catalogue (length out)) ≡ first_of (body_asks f catalogue (length out)) =
-    first-passed (head_asks f cabinet line) (body_asks f catalogue (length out)) (sym e ∙ k) in
+    first_passed (head_asks f cabinet line) (body_asks f catalogue (length out)) (sym e ∙ k) in
     (h.0 ∙ ap (λ (o : Outcome). table_for o f) (sym s), h.1 ∙ ap (λ (o : Outcome). words_for o f out) (sym s))
 
 -- Where there is room for the words of any file, 12 is never the answer.
-pub any-room : (f : List ℕ) (cabinet line : ℕ) (catalogue : List ℕ) (room : ℕ) → most_words ≤ room
+pub any_room : (f : List ℕ) (cabinet line : ℕ) (catalogue : List ℕ) (room : ℕ) → most_words ≤ room
     → first_of (read_asks f cabinet line catalogue room) ≡ first_of (file_asks f cabinet line catalogue)
-any-room f cabinet line catalogue room h = go (first_of (file_asks f cabinet line catalogue)) refl
+any_room f cabinet line catalogue room h = go (first_of (file_asks f cabinet line catalogue)) refl
   where
     go : (o : Outcome) → first_of (file_asks f cabinet line catalogue) ≡ o
         → first_of (read_asks f cabinet line catalogue room) ≡ first_of (file_asks f cabinet line catalogue)
     go Done e =
         let head = (first_done (head_asks f cabinet line) (drop 7 (file_asks f cabinet line catalogue)) e).0 in
-        let few = (head-says f cabinet line head).words in
-        first-passed (file_asks f cabinet line catalogue) (no_room room (words_in f) ∷ []) e ∙ rw (le-ltb room (words_in f) (omega arith)) (sym e)
-    go (Refused r) e = first-refused (file_asks f cabinet line catalogue) (no_room room (words_in f) ∷ []) r e ∙ sym e
+        let few = (head_says f cabinet line head).words in
+        first_passed (file_asks f cabinet line catalogue) (no_room room (words_in f) ∷ []) e ∙ rw (le-ltb room (words_in f) (omega arith)) (sym e)
+    go (Refused r) e = first_refused (file_asks f cabinet line catalogue) (no_room room (words_in f) ∷ []) r e ∙ sym e
 
-pub outcome-read : (f : List ℕ) (cabinet line : ℕ) (catalogue out : List ℕ) {a : ReadAnswer} → a ≡ read_answer f cabinet line catalogue out
+pub outcome_read : (f : List ℕ) (cabinet line : ℕ) (catalogue out : List ℕ) {a : ReadAnswer} → a ≡ read_answer f cabinet line catalogue out
     → most_words ≤ length out → a.outcome ≡ first_of (file_asks f cabinet line catalogue)
-outcome-read f cabinet line catalogue out e h = rw e (any-room f cabinet line catalogue (length out) h)
+outcome_read f cabinet line catalogue out e h = rw e (any_room f cabinet line catalogue (length out) h)

@@ -9,20 +9,20 @@ use lib.ListN.{length}
 use Rattle.paper.specs.Regions.{words_in_range, words_sum, regions_hold}
 
 module _ (list : List ℕ) (first count c : ℕ) where
-  pub first-large : 127 < first → regions_hold list first count c ≡ false
+  pub first_large : 127 < first → regions_hold list first count c ≡ false
   unfolding regions_hold
-  first-large h = rw (lt-leb first 127 h) (and-false (leb 1 count))
+  first_large h = rw (lt-leb first 127 h) (and-false (leb 1 count))
 
-  pub count-large : 127 < count → regions_hold list first count c ≡ false
+  pub count_large : 127 < count → regions_hold list first count c ≡ false
   unfolding regions_hold
-  count-large h = rw (lt-leb count 127 h, and-false (leb first 127)) (and-false (leb 1 count))
+  count_large h = rw (lt-leb count 127 h, and-false (leb first 127)) (and-false (leb 1 count))
 
-  pub list-short : length list < first + count → regions_hold list first count c ≡ false
+  pub list_short : length list < first + count → regions_hold list first count c ≡ false
   unfolding regions_hold
-  list-short h =
+  list_short h =
       rw (lt-leb (first + count) (length list) h, and-false (leb count 127), and-false (leb first 127)) (and-false (leb 1 count))
 
-  pub bounds-hold : first ≤ 127 → count ≤ 127 → first + count ≤ length list
+  pub bounds_hold : first ≤ 127 → count ≤ 127 → first + count ≤ length list
       → regions_hold list first count c ≡ (leb 1 count && (words_in_range list first count && eqb (words_sum list first count) c))
   unfolding regions_hold
-  bounds-hold f n e = rw (le-leb first 127 f, le-leb count 127 n, le-leb (first + count) (length list) e)
+  bounds_hold f n e = rw (le-leb first 127 f, le-leb count 127 n, le-leb (first + count) (length list) e)

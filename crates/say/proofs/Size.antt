@@ -54,11 +54,11 @@ module _ (z : ℤ) (fits : SFits w64 z) (test : le_z (pos 0) (read z) ≡ false)
   turn = ap (λ y. pos 0 -ℤ y) (to_z-of_z up_fits ∙ up) ∙ +ℤ_idl (neg_ℤ (suc_ℤ (negsuc (mag z)))) ∙ turned (mag z)
 
   -- and the sign turned
-  pub turn-fits : SFits w64 (pos 0 -ℤ read (read z +ℤ pos 1))
-  turn-fits = rw turn (record { sfits = fits.sfits })
+  pub turn_fits : SFits w64 (pos 0 -ℤ read (read z +ℤ pos 1))
+  turn_fits = rw turn (record { sfits = fits.sfits })
 
   result : read (pos 0 -ℤ read (read z +ℤ pos 1)) ≡ pos (mag z)
-  result = to_z-of_z turn-fits ∙ turn
+  result = to_z-of_z turn_fits ∙ turn
 
   pub result_fits : T (non_neg (read (pos 0 -ℤ read (read z +ℤ pos 1)))) × Fits w64 (nat_abs (read (pos 0 -ℤ read (read z +ℤ pos 1))))
   result_fits = rw result (tt, record { fits = omega (arith, fits.sfits) })

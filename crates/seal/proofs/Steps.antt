@@ -11,6 +11,6 @@ pub from_step : (c : ℕ) (s : List ℕ) (i : ℕ) → i < length s → seal_fro
 unfolding seal_from
 from_step c s i h = rw (add-one, drop-cons s i 0 h)
 
-pub from-done : (c : ℕ) (s : List ℕ) (i : ℕ) → length s ≤ i → seal_from c (drop i s) ≡ c
+pub from_done : (c : ℕ) (s : List ℕ) (i : ℕ) → length s ≤ i → seal_from c (drop i s) ≡ c
 unfolding seal_from
-from-done c s i h = rw (drop_of_length-le s h)
+from_done c s i h = rw (drop_of_length-le s h)

@@ -21,47 +21,47 @@ use Rattle.show_facts.specs.declared.Facts.{Facts}
 pub no_place : (x : ℕ) → x ≡ 0 → Cell.Dash ≡ place_cell x
 no_place x e = rw (eq-eqb x 0 e)
 
-pub a-place : (x : ℕ) → (x ≡ 0 → ⊥) → Cell.Number x ≡ place_cell x
-a-place x e = rw (ne_eqb x 0 e)
+pub a_place : (x : ℕ) → (x ≡ 0 → ⊥) → Cell.Number x ≡ place_cell x
+a_place x e = rw (ne_eqb x 0 e)
 
-pub slack-left : (time : Time) (x d : ℕ) → time ≡ At x → x ≤ d → Cell.Number (d - x) ≡ slack_cell time d
-slack-left time x d e h = rw (e, le-leb x d h)
+pub slack_left : (time : Time) (x d : ℕ) → time ≡ At x → x ≤ d → Cell.Number (d - x) ≡ slack_cell time d
+slack_left time x d e h = rw (e, le-leb x d h)
 
-pub slack-over : (time : Time) (x d : ℕ) → time ≡ At x → d < x → Cell.Minus (x - d) ≡ slack_cell time d
-slack-over time x d e h = rw (e, lt-leb x d h)
+pub slack_over : (time : Time) (x d : ℕ) → time ≡ At x → d < x → Cell.Minus (x - d) ≡ slack_cell time d
+slack_over time x d e h = rw (e, lt-leb x d h)
 
-pub no-slack : (time : Time) (d : ℕ) → time ≡ Beyond → Cell.Dash ≡ slack_cell time d
-no-slack time d e = rw e
+pub no_slack : (time : Time) (d : ℕ) → time ≡ Beyond → Cell.Dash ≡ slack_cell time d
+no_slack time d e = rw e
 
 -- a signed number, which is read back from its bits
-pub ticks-below : (x : ℤ) {y : ℤ} (m : ℕ) → y ≡ x → lt_z y (pos 0) ≡ true → m ≡ nat_abs y → Cell.Minus m ≡ ticks_cell x
-ticks-below x m b h e = go x (rw b at h) (rw b at e)
+pub ticks_below : (x : ℤ) {y : ℤ} (m : ℕ) → y ≡ x → lt_z y (pos 0) ≡ true → m ≡ nat_abs y → Cell.Minus m ≡ ticks_cell x
+ticks_below x m b h e = go x (rw b at h) (rw b at e)
   where
     go : (x : ℤ) → lt_z x (pos 0) ≡ true → m ≡ nat_abs x → Cell.Minus m ≡ ticks_cell x
     go (pos x) h e = absurd (omega (arith, ltb-true x 0 h))
     go (negsuc x) h e = rw e
 
-pub ticks-above : (x : ℤ) {y : ℤ} (m : ℕ) → y ≡ x → lt_z y (pos 0) ≡ false → m ≡ nat_abs y → Cell.Number m ≡ ticks_cell x
-ticks-above x m b h e = go x (rw b at h) (rw b at e)
+pub ticks_above : (x : ℤ) {y : ℤ} (m : ℕ) → y ≡ x → lt_z y (pos 0) ≡ false → m ≡ nat_abs y → Cell.Number m ≡ ticks_cell x
+ticks_above x m b h e = go x (rw b at h) (rw b at e)
   where
     go : (x : ℤ) → lt_z x (pos 0) ≡ false → m ≡ nat_abs x → Cell.Number m ≡ ticks_cell x
     go (pos x) h e = rw e
     go (negsuc x) h e = let z : ◌≡◌ {A = ℕ} 0 1 = cc in absurd (omega arith)
 
 -- a cell by its column's number, and past the last
-pub in-column : (cells : List Cell) (column i : ℕ) {x : Cell} → column ≡ i → x ≡ get_or cells i Cell.Dash → x ≡ get_or cells column Cell.Dash
-in-column cells column i e h = rw e h
+pub in_column : (cells : List Cell) (column i : ℕ) {x : Cell} → column ≡ i → x ≡ get_or cells i Cell.Dash → x ≡ get_or cells column Cell.Dash
+in_column cells column i e h = rw e h
 
-pub past-columns : (cells : List Cell) (column : ℕ) → length cells ≤ column → Cell.Dash ≡ get_or cells column Cell.Dash
-past-columns cells column h = sym (get_or-eq_default cells Cell.Dash h)
+pub past_columns : (cells : List Cell) (column : ℕ) → length cells ≤ column → Cell.Dash ≡ get_or cells column Cell.Dash
+past_columns cells column h = sym (get_or-eq_default cells Cell.Dash h)
 
-pub one-past : (column k : ℕ) → k ≤ column → (column ≡ k → ⊥) → k + 1 ≤ column
-one-past column k h e = omega arith
+pub one_past : (column k : ℕ) → k ≤ column → (column ≡ k → ⊥) → k + 1 ≤ column
+one_past column k h e = omega arith
 
 -- the jitters' column, and any other
-pub jitters-stand : (f : Facts) (column : ℕ) {n first : ℕ} → column ≡ 3 → n ≡ jobs f → first ≡ lowest n (λ k. not (eqb (job_of f k).jitter 0))
+pub jitters_stand : (f : Facts) (column : ℕ) {n first : ℕ} → column ≡ 3 → n ≡ jobs f → first ≡ lowest n (λ k. not (eqb (job_of f k).jitter 0))
     → ltb 0 first ≡ column_stands f column
-jitters-stand f column e n h = rw (eq-eqb column 3 e, h, n)
+jitters_stand f column e n h = rw (eq-eqb column 3 e, h, n)
 
-pub others-stand : (f : Facts) (column : ℕ) → (column ≡ 3 → ⊥) → true ≡ column_stands f column
-others-stand f column e = rw (ne_eqb column 3 e)
+pub others_stand : (f : Facts) (column : ℕ) → (column ≡ 3 → ⊥) → true ≡ column_stands f column
+others_stand f column e = rw (ne_eqb column 3 e)

@@ -5,6 +5,6 @@ use native.Mathlib.Omega.{arith}
 use Rattle.text.specs.Places.{Put}
 
 -- In the same buffer: what was put first left its size as it was.
-pub put-after : {size size' from mid to : ℕ} → Put size from mid → size' ≡ size → Put size' mid to → Put size from to
-put-after a e b =
+pub put_after : {size size' from mid to : ℕ} → Put size from mid → size' ≡ size → Put size' mid to → Put size from to
+put_after a e b =
     record { onwards = omega arith; inside = omega arith; spare = λ l. let there = a.spare l in let on = b.spare (omega arith) in omega arith }

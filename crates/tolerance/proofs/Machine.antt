@@ -9,7 +9,7 @@ use mir.Syntax.{w64}
 use mir.Val.{to_z, of_z}
 use mir.Facts.{to_z-of_z, to_z_pos}
 use Rattle.paper.proofs.Signed.{sub_is}
-use Rattle.paper.proofs.Extremes.{by-test}
+use Rattle.paper.proofs.Extremes.{by_test}
 
 pub read_back : (z : ℤ) → mag z < 2 ^ 63 → to_z w64 (of_z w64 z) ≡ z
 read_back z h = to_z-of_z {w = w64} (record { sfits = h })
@@ -19,8 +19,8 @@ pub kept : (z : ℤ) {v : ℤ} → mag z < 2 ^ 63 → z ≡ v → to_z w64 (of_z
 kept z h e = read_back z h ∙ e
 
 -- the machine's difference of two numbers below 2 ^ 63 is their signed difference
-pub signed-difference : (a b : ℕ) → a < 2 ^ 63 → b < 2 ^ 63 → to_z w64 a -ℤ to_z w64 b ≡ sub_ℕ a b
-signed-difference a b h k = ap₂ ◌-ℤ◌ (to_z_pos w64 h) (to_z_pos w64 k) ∙ sub_is a b
+pub signed_difference : (a b : ℕ) → a < 2 ^ 63 → b < 2 ^ 63 → to_z w64 a -ℤ to_z w64 b ≡ sub_ℕ a b
+signed_difference a b h k = ap₂ ◌-ℤ◌ (to_z_pos w64 h) (to_z_pos w64 k) ∙ sub_is a b
 
-pub difference-fits : (a b : ℕ) → a < 2 ^ 63 → b < 2 ^ 63 → mag (sub_ℕ a b) < 2 ^ 63
-difference-fits a b h k = by-test (λ z. mag z < 2 ^ 63) (ltb a b) (λ e. omega arith) (λ e. omega arith)
+pub difference_fits : (a b : ℕ) → a < 2 ^ 63 → b < 2 ^ 63 → mag (sub_ℕ a b) < 2 ^ 63
+difference_fits a b h k = by_test (λ z. mag z < 2 ^ 63) (ltb a b) (λ e. omega arith) (λ e. omega arith)

@@ -28,18 +28,18 @@ jobs j k = record {
 abbrev words : List ℕ
 words = 2 ∷ 3 ∷ 1 ∷ []
 
-pub sample-taken : write_outcome 1 (jobs 0 0) 70002 12 words [] 42 ≡ Done
+pub sample_taken : write_outcome 1 (jobs 0 0) 70002 12 words [] 42 ≡ Done
 unfolding every sum_to each_once thresholds_hold regions_hold all_regions_hold
-sample-taken = refl
+sample_taken = refl
 
-pub sample-file : file_of 1 (jobs 0 0) 70002 12 words ≡
+pub sample_file : file_of 1 (jobs 0 0) 70002 12 words ≡
     0x10 ∷ 0x01 ∷ 0x11 ∷ 0x72 ∷ 0x00 ∷ 0x0c ∷ 0x02 ∷ 0x03 ∷
     0x00 ∷ 0x00 ∷ 0x20 ∷ 0x00 ∷ 0x05 ∷ 0x00 ∷ 0x00 ∷ 0x51 ∷ 0x10 ∷ 0x00 ∷ 0x20 ∷ 0x00 ∷
     0x00 ∷ 0x00 ∷ 0x40 ∷ 0x00 ∷ 0x0a ∷ 0x00 ∷ 0x00 ∷ 0xa2 ∷ 0x20 ∷ 0x10 ∷ 0x40 ∷ 0x40 ∷
     0x00 ∷ 0x00 ∷ 0x20 ∷ 0x00 ∷ 0x03 ∷ 0x00 ∷ 0x00 ∷ 0x10 ∷
     0x81 ∷ 0x1c ∷ []
 unfolding file_of put_seal put_words put_records put_head put_fields put_field put_bit with_bit seal_from seal_byte seal_bits seal_bit
-sample-file = refl
+sample_file = refl
 
 -- Edition 2
 abbrev second : List ℕ
@@ -50,23 +50,23 @@ second =
     0x00 ∷ 0x00 ∷ 0x20 ∷ 0x00 ∷ 0x03 ∷ 0x00 ∷ 0x00 ∷ 0x10 ∷
     0xd4 ∷ 0x80 ∷ []
 
-pub late-taken : write_outcome 2 (jobs 3 9) 70002 12 words [] 48 ≡ Done
+pub late_taken : write_outcome 2 (jobs 3 9) 70002 12 words [] 48 ≡ Done
 unfolding every sum_to each_once thresholds_hold regions_hold all_regions_hold
-late-taken = refl
+late_taken = refl
 
-pub late-file : file_of 2 (jobs 3 9) 70002 12 words ≡ second
+pub late_file : file_of 2 (jobs 3 9) 70002 12 words ≡ second
 unfolding file_of put_seal put_words put_records put_head put_fields put_field put_bit with_bit seal_from seal_byte seal_bits seal_bit
-late-file = refl
+late_file = refl
 
-pub late-reads : read_outcome second 70002 12 [] 3 ≡ Done
+pub late_reads : read_outcome second 70002 12 [] 3 ≡ Done
 unfolding every sum_to list_to per_task bit_at field spare_clear sealed seal_from seal_byte seal_bits seal_bit region_words each_once thresholds_hold regions_hold all_regions_hold
-late-reads = refl
+late_reads = refl
 
-pub late-says : (edition_in second ≡ 2) × (table_in second ≡ zero_past (jobs 3 9)) × (own_words second ≡ words)
+pub late_says : (edition_in second ≡ 2) × (table_in second ≡ zero_past (jobs 3 9)) × (own_words second ≡ words)
 unfolding list_to per_task bit_at field region_words
-late-says = (refl, refl, refl)
+late_says = (refl, refl, refl)
 
 -- 19
-pub late-refused : write_outcome 1 (jobs 3 9) 70002 12 words [] 48 ≡ Refused JitterInEditionOne
+pub late_refused : write_outcome 1 (jobs 3 9) 70002 12 words [] 48 ≡ Refused JitterInEditionOne
 unfolding every sum_to each_once thresholds_hold regions_hold all_regions_hold
-late-refused = refl
+late_refused = refl

@@ -20,8 +20,8 @@ use Rattle.paper.specs.declared.Refusal.TheVariants.{ToleranceBelowZero}
 use Rattle.paper.specs.declared.Outcome.{Outcome}
 use Rattle.paper.specs.declared.Outcome.TheVariants.{Done, Refused}
 use Rattle.paper.proofs.Tests.{never, ◌and◌}
-use Rattle.paper.proofs.Lengths.{none_named, lowest-named}
-use Rattle.paper.proofs.Jitters.{answered-instants}
+use Rattle.paper.proofs.Lengths.{none_named, lowest_named}
+use Rattle.paper.proofs.Jitters.{answered_instants}
 use Rattle.verdicts.specs.Verdicts.{first_note}
 use Rattle.verdicts.specs.declared.Note.{Note}
 
@@ -53,8 +53,8 @@ named low m e = go (ltb 0 low) e
     go false e = let z : ◌≡◌ {A = ℕ} 0 1 = cc in absurd (omega arith)
 
 -- behind 5, 9, 10, 14 and 15
-names-last : (t : Table) (low m : ℕ) → Names m (first_of (times_asks t ++ (deadline_above_period t ∷ below_zero_at low ∷ []))) → low ≡ m
-names-last t low m e =
+names_last : (t : Table) (low m : ℕ) → Names m (first_of (times_asks t ++ (deadline_above_period t ∷ below_zero_at low ∷ []))) → low ≡ m
+names_last t low m e =
     named low m
     (passed (times_asks t ++ (deadline_above_period t ∷ [])) (below_zero_at low ∷ []) m
     ((λ z. omega (arith, z)) and (λ z. omega (arith, z)) and (λ z. omega (arith, z)) and (λ z. omega (arith, z)) and (λ z. omega (arith, z)) and tt) e)
@@ -80,14 +80,14 @@ module _ (t : Table) where
   note = first_note (times_answer t).outcome (tolerances_answer t).outcome (lengths_answer t).outcome
 
   -- a 16 of the tolerances is of a job with no t: its jitter reaches its deadline
-  pub note-no-instant : (k : ℕ) → note ≡ Note.Tolerances (ToleranceBelowZero (suc k)) → (k < t.n) × (no_instant y k ≡ true)
-  note-no-instant k e =
-      let r = none_named y k (names-last t (lowest_no_instant y) (suc k) (of-tolerances (times_answer t).outcome (tolerances_answer t).outcome (lengths_answer t).outcome _ e)) in
+  pub note_no_instant : (k : ℕ) → note ≡ Note.Tolerances (ToleranceBelowZero (suc k)) → (k < t.n) × (no_instant y k ≡ true)
+  note_no_instant k e =
+      let r = none_named y k (names_last t (lowest_no_instant y) (suc k) (of-tolerances (times_answer t).outcome (tolerances_answer t).outcome (lengths_answer t).outcome _ e)) in
       (r.0, r.1)
 
   -- a 16 of the lengths alone is of one whose tolerance is below zero
-  pub note-below-zero : (k : ℕ) → note ≡ Note.Lengths (ToleranceBelowZero (suc k)) → (k < t.n) × (tolerance y (assigned t.records) k <ℤ pos 0)
-  note-below-zero k e =
+  pub note_below_zero : (k : ℕ) → note ≡ Note.Lengths (ToleranceBelowZero (suc k)) → (k < t.n) × (tolerance y (assigned t.records) k <ℤ pos 0)
+  note_below_zero k e =
       let o = of-lengths (times_answer t).outcome (tolerances_answer t).outcome (lengths_answer t).outcome _ e in
-      let r = lowest-named y (assigned t.records) k (names-last t (lowest_below_zero y (assigned t.records)) (suc k) o.1) in
-      (r.0, ⊎_elim (λ none. absurd (never _ none (answered-instants t o.0 k r.0))) (λ below. below) r.1)
+      let r = lowest_named y (assigned t.records) k (names_last t (lowest_below_zero y (assigned t.records)) (suc k) o.1) in
+      (r.0, ⊎_elim (λ none. absurd (never _ none (answered_instants t o.0 k r.0))) (λ below. below) r.1)

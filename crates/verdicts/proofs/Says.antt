@@ -20,29 +20,29 @@ use Rattle.verdicts.specs.declared.Fit.{Fit}
 use Rattle.verdicts.specs.declared.Fit.TheVariants.{TooLong}
 use Rattle.verdicts.specs.declared.Verdict.TheVariants.{Checked}
 
-pub note-times : (a b c : Outcome) (r : Refusal) → a ≡ Refused r → Note.Times r ≡ first_note a b c
-note-times a b c r e = rw e
+pub note_times : (a b c : Outcome) (r : Refusal) → a ≡ Refused r → Note.Times r ≡ first_note a b c
+note_times a b c r e = rw e
 
-pub note-tolerances : (a b c : Outcome) (r : Refusal) → a ≡ Done → b ≡ Refused r → Note.Tolerances r ≡ first_note a b c
-note-tolerances a b c r e f = rw (e, f)
+pub note_tolerances : (a b c : Outcome) (r : Refusal) → a ≡ Done → b ≡ Refused r → Note.Tolerances r ≡ first_note a b c
+note_tolerances a b c r e f = rw (e, f)
 
-pub note-lengths : (a b c : Outcome) (r : Refusal) → a ≡ Done → b ≡ Done → c ≡ Refused r → Note.Lengths r ≡ first_note a b c
-note-lengths a b c r e f g = rw (e, f, g)
+pub note_lengths : (a b c : Outcome) (r : Refusal) → a ≡ Done → b ≡ Done → c ≡ Refused r → Note.Lengths r ≡ first_note a b c
+note_lengths a b c r e f g = rw (e, f, g)
 
-pub first-is : (f : Facts) {n first : ℕ} → f.points.outcome ≡ Done → n ≡ jobs f → first ≡ lowest n (λ k. not (passes_at f k)) → first ≡ not_shown f
-first-is f e n h = rw (e, ← n) h
+pub first_is : (f : Facts) {n first : ℕ} → f.points.outcome ≡ Done → n ≡ jobs f → first ≡ lowest n (λ k. not (passes_at f k)) → first ≡ not_shown f
+first_is f e n h = rw (e, ← n) h
 
-pub none-late : (late : ℕ) → late ≡ 0 → Kept ≡ deadlines_of late
-none-late late e = rw (eq-eqb late 0 e)
+pub none_late : (late : ℕ) → late ≡ 0 → Kept ≡ deadlines_of late
+none_late late e = rw (eq-eqb late 0 e)
 
-pub some-late : (late : ℕ) → (late ≡ 0 → ⊥) → Missed late ≡ deadlines_of late
-some-late late e = rw (ne_eqb late 0 e)
+pub some_late : (late : ℕ) → (late ≡ 0 → ⊥) → Missed late ≡ deadlines_of late
+some_late late e = rw (ne_eqb late 0 e)
 
 pub too_long : (answer : FitAnswer) (unfit : ℕ) → answer ≡ Answer.Unfit → TooLong unfit ≡ fit_of answer unfit
 too_long answer unfit e = rw e
 
 -- the verdict, out of what the called functions gave
-pub verdict-is : (f : Facts) {n late unfit : ℕ} {d : Deadlines} {fit : Fit} → f.times.outcome ≡ Done → n ≡ jobs f
+pub verdict_is : (f : Facts) {n late unfit : ℕ} {d : Deadlines} {fit : Fit} → f.times.outcome ≡ Done → n ≡ jobs f
     → late ≡ lowest n (λ k. not (keeps_at f k)) → d ≡ deadlines_of late
     → unfit ≡ lowest n (λ k. not (get_or f.fits k false)) → fit ≡ fit_of f.check unfit → Checked d fit ≡ verdict_of f
-verdict-is f e n l d u t = rw (e, d, t, l, u, n)
+verdict_is f e n l d u t = rw (e, d, t, l, u, n)

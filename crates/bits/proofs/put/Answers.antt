@@ -2,7 +2,7 @@ use mathlib.Core.Path.{ap, sym, ◌∙◌}
 use native.Mathlib.Omega.{arith}
 use lib.ListN.{length}
 use Rattle.bits.proofs.Putting.{put_only}
-use Rattle.bits.proofs.Steps.{put_step, put-done}
+use Rattle.bits.proofs.Steps.{put_step, put_done}
 use Rattle.bits.proofs.put.Goals as goal
 
 pub loop-left-preserved : goal.loop-left-preserved
@@ -13,4 +13,4 @@ loop-left-preserved c = (
 )
 
 pub returns : goal.returns
-returns c = sym (put-done _ _ c.loop-left.left c.loop-left.v (omega arith)) ∙ c.loop-left.invariant.2
+returns c = sym (put_done _ _ c.loop-left.left c.loop-left.v (omega arith)) ∙ c.loop-left.invariant.2

@@ -1,7 +1,7 @@
 use mathlib.Core.Path.{refl}
 use Rattle.paper.specs.Vocabulary.{every}
 use Rattle.paper.specs.Numbers.{thresholds_hold}
-use Rattle.laws.proofs.Every.{at-end, every-turn}
+use Rattle.laws.proofs.Every.{at_end, every_turn}
 use native.Mathlib.Omega.{arith}
 use Rattle.checks.proofs.thresholds_hold.Goals as goal
 
@@ -10,8 +10,8 @@ unfolding every
 loop-k-init c = (omega arith, refl)
 
 pub loop-k-preserved : goal.loop-k-preserved
-loop-k-preserved c = (omega arith, every-turn _ _ c.loop-k.invariant.1 refl)
+loop-k-preserved c = (omega arith, every_turn _ _ c.loop-k.invariant.1 refl)
 
 pub returns : goal.returns
 unfolding thresholds_hold
-returns c = at-end every _ _ c.loop-k.invariant.1 (omega arith)
+returns c = at_end every _ _ c.loop-k.invariant.1 (omega arith)

@@ -3,7 +3,7 @@ use mathlib.Core.Path.{ap}
 use native.Mathlib.Omega.{arith}
 use Rattle.columns.specs.Columns.{tasks_by, ranked_by}
 use Rattle.climb.specs.Work.{side}
-use Rattle.climb.proofs.Works.{work-bound}
+use Rattle.climb.proofs.Works.{work_bound}
 use Rattle.climb.proofs.side.Goals as goal
 
 pub overflow_add-result : goal.overflow_add-result
@@ -13,7 +13,7 @@ overflow_add-result c =
     omega (
       arith,
       c.work.ensures,
-      work-bound (tasks_by a.n a.y.now) (ranked_by a.p.now) a.e.limit s.requires.0 (a.x + a.e.edge) (omega (arith, s.requires.1, s.requires.2.edge)),
+      work_bound (tasks_by a.n a.y.now) (ranked_by a.p.now) a.e.limit s.requires.0 (a.x + a.e.edge) (omega (arith, s.requires.1, s.requires.2.edge)),
       s.requires.2.base,
     )
 

@@ -12,12 +12,12 @@ kept_at : (time : Time) (x d : ℕ) → time ≡ At x → leb x d ≡ within tim
 unfolding within
 kept_at time x d e = rw e
 
-beyond-late : (time : Time) (d : ℕ) → time ≡ Beyond → false ≡ within time d
+beyond_late : (time : Time) (d : ℕ) → time ≡ Beyond → false ≡ within time d
 unfolding within
-beyond-late time d e = rw e
+beyond_late time d e = rw e
 
 pub returns-in-At : goal.returns-in-At
 returns-in-At c = kept_at _ _ _ c.in-At.is
 
 pub returns-in-Beyond : goal.returns-in-Beyond
-returns-in-Beyond c = beyond-late _ _ c.in-Beyond.is
+returns-in-Beyond c = beyond_late _ _ c.in-Beyond.is

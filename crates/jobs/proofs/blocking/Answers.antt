@@ -2,10 +2,10 @@ use mathlib.Core.Path.{sym, ◌∙◌}
 use native.Mathlib.Omega.{arith}
 use borrow.Author.Rules.{rules}
 use Rattle.paper.specs.Vocabulary.{max_to}
-use Rattle.laws.proofs.Every.{at-end}
-use Rattle.laws.proofs.Sums.{max_none, max-turn}
+use Rattle.laws.proofs.Every.{at_end}
+use Rattle.laws.proofs.Sums.{max_none, max_turn}
 use Rattle.columns.specs.Columns.{tasks_by, assigned_by}
-use Rattle.jobs.proofs.Blocks.{block-is, blocking-is}
+use Rattle.jobs.proofs.Blocks.{block_is, blocking_is}
 use Rattle.jobs.proofs.blocking.Goals as goal
 
 pub loop-j-init : goal.loop-j-init
@@ -17,12 +17,12 @@ loop-j-preserved c =
     let a = c.args in (
       search rules,
       c.larger-most.ensures
-          ∙ max-turn _ _ l.invariant.1
-          (block-is (tasks_by a.n a.y.now) (assigned_by a.p.now a.h.now) _ l.j c.cost.ensures c.block_part.ensures),
+          ∙ max_turn _ _ l.invariant.1
+          (block_is (tasks_by a.n a.y.now) (assigned_by a.p.now a.h.now) _ l.j c.cost.ensures c.block_part.ensures),
     )
 
 pub returns : goal.returns
 returns c =
     let a = c.args in
-    at-end max_to _ a.n c.loop-j.invariant.1 (omega arith)
-    ∙ sym (blocking-is (tasks_by a.n a.y.now) (assigned_by a.p.now a.h.now) a.i)
+    at_end max_to _ a.n c.loop-j.invariant.1 (omega arith)
+    ∙ sym (blocking_is (tasks_by a.n a.y.now) (assigned_by a.p.now a.h.now) a.i)

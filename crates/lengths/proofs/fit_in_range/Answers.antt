@@ -3,8 +3,8 @@ use mathlib.Core.Path.{sym, ◌∙◌}
 use Rattle.paper.specs.Numbers.{assigned}
 use Rattle.paper.specs.Analysis.{tasks_of}
 use Rattle.paper.specs.Lengths.{length_of}
-use Rattle.lengths.proofs.Outcomes.{answer-outcome, answer-ticks, fit-done}
-use Rattle.lengths.proofs.Tables.{fit-by}
+use Rattle.lengths.proofs.Outcomes.{answer_outcome, answer_ticks, fit_done}
+use Rattle.lengths.proofs.Tables.{fit_by}
 use Rattle.lengths.proofs.fit_in_range.Goals as goal
 
 pub returns-in-Done : goal.returns-in-Done
@@ -14,5 +14,5 @@ returns-in-Done c =
     let y = tasks_of rs a.t.n in
     let f = length_of y (assigned rs) in
     c.verdict.ensures
-    ∙ fit-done (sym (answer-outcome y.n f c.lengths_in_range-answer.ensures) ∙ c.in-Done.is)
-    (c.all_fit.ensures ∙ fit-by rs y (assigned rs) _ a.own.now a.catalogue.now (answer-ticks y.n f c.lengths_in_range-answer.ensures c.in-Done.is))
+    ∙ fit_done (sym (answer_outcome y.n f c.lengths_in_range-answer.ensures) ∙ c.in-Done.is)
+    (c.all_fit.ensures ∙ fit_by rs y (assigned rs) _ a.own.now a.catalogue.now (answer_ticks y.n f c.lengths_in_range-answer.ensures c.in-Done.is))

@@ -4,7 +4,7 @@ use Rattle.paper.specs.Numbers.{assigned}
 use Rattle.paper.specs.Analysis.{tasks_of}
 use Rattle.paper.specs.Lengths.{length_of}
 use Rattle.paper.specs.Refusals.{tolerance_below_zero}
-use Rattle.lengths.proofs.Outcomes.{alike-refused, in-range}
+use Rattle.lengths.proofs.Outcomes.{alike_refused, in-range}
 use Rattle.lengths.proofs.lengths.Goals as goal
 
 pub lengths_in_range-requires : goal.lengths_in_range-requires
@@ -14,5 +14,5 @@ pub returns-in-Refused : goal.returns-in-Refused
 returns-in-Refused c =
     let t = c.args.t in
     c.turned_away.ensures
-    ∙ alike-refused t (tolerance_below_zero t) (length_of (tasks_of t.records t.n) (assigned t.records)) _
+    ∙ alike_refused t (tolerance_below_zero t) (length_of (tasks_of t.records t.n) (assigned t.records)) _
     (sym c.deadlines_outcome-outcome.ensures ∙ c.in-Refused.is)

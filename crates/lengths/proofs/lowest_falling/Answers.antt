@@ -4,7 +4,7 @@ use native.Mathlib.Omega.{arith}
 use native.Mathlib.Numerals.{add-one}
 use borrow.Author.Count.{below_more}
 use Rattle.paper.specs.Lengths.{no_instant}
-use Rattle.paper.proofs.Extremes.{lowest-none, lowest-found}
+use Rattle.paper.proofs.Extremes.{lowest_none, lowest_found}
 use Rattle.columns.specs.Columns.{tasks_by}
 use borrow.Author.Rules.{rules}
 use lib.IntN.{pos}
@@ -21,7 +21,7 @@ returns-then-no_instant-below c =
     let a = c.args in
     let read : to_z w64 (of_z w64 (get_or a.ticks.now l.k (pos 0))) ≡ get_or a.ticks.now l.k (pos 0) = search rules in
     add-one l.k
-    ∙ sym (lowest-found (falls (tasks_by a.n a.y.now) a.below a.ticks.now) a.n l.k c.loop-k-test.true
+    ∙ sym (lowest_found (falls (tasks_by a.n a.y.now) a.below a.ticks.now) a.n l.k c.loop-k-test.true
     (rw (read, c.no_instant.ensures) at c.if-no_instant-below.true) l.invariant.1)
 
 pub loop-k-preserved : goal.loop-k-preserved
@@ -39,4 +39,4 @@ pub returns : goal.returns
 returns c =
     let l = c.loop-k in
     let a = c.args in
-    sym (lowest-none (falls (tasks_by a.n a.y.now) a.below a.ticks.now) a.n (λ j h. l.invariant.1 j (omega arith)))
+    sym (lowest_none (falls (tasks_by a.n a.y.now) a.below a.ticks.now) a.n (λ j h. l.invariant.1 j (omega arith)))

@@ -1,7 +1,7 @@
 -- `reader::rest` meets its contract.
 use Rattle.paper.specs.Refusals.{first_of}
 use lib.ListN.{length, take}
-use Rattle.unpack.proofs.Words.{array-front}
+use Rattle.unpack.proofs.Words.{array_front}
 use Rattle.reader.specs.Stages.{body_asks, Unpacked}
 use Rattle.reader.proofs.Stages.{answered}
 use borrow.Author.Rules.{rules}
@@ -24,7 +24,7 @@ unpacked c =
       tasks = search rules;
       words = search rules;
       records = c.table_in-t.ensures.1;
-      regions = array-front _ _ _ _ c.words_in-ws.ensures;
+      regions = array_front _ _ _ _ c.words_in-ws.ensures;
     }
 
 pub body-outcome-requires : goal.body-outcome-requires

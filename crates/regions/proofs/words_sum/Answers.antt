@@ -1,6 +1,6 @@
 use mathlib.Core.Path.{refl}
 use Rattle.paper.specs.Vocabulary.{sum_to}
-use Rattle.laws.proofs.Every.{at-end, sum-turn}
+use Rattle.laws.proofs.Every.{at_end, sum_turn}
 use native.Mathlib.Omega.{arith}
 use Rattle.regions.proofs.words_sum.Goals as goal
 
@@ -9,7 +9,7 @@ unfolding sum_to
 loop-i-init c = (omega arith, omega arith, refl)
 
 pub loop-i-preserved : goal.loop-i-preserved
-loop-i-preserved c = (omega arith, omega arith, sum-turn _ _ c.loop-i.invariant.2 c.word.ensures)
+loop-i-preserved c = (omega arith, omega arith, sum_turn _ _ c.loop-i.invariant.2 c.word.ensures)
 
 pub returns : goal.returns
-returns c = at-end sum_to _ _ c.loop-i.invariant.2 (omega arith)
+returns c = at_end sum_to _ _ c.loop-i.invariant.2 (omega arith)

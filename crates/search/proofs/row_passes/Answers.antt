@@ -1,8 +1,8 @@
 -- A row that is well formed passes where its columns do.
 use mathlib.Core.Path.{sym, ◌∙◌}
 use Rattle.rows.specs.Columns.{Unpacked}
-use Rattle.rows.proofs.Columns.{same-assignment, row-placed}
-use Rattle.search.proofs.Tested.{ill-formed, row-tested}
+use Rattle.rows.proofs.Columns.{same_assignment, row_placed}
+use Rattle.search.proofs.Tested.{ill_formed, row_tested}
 use Rattle.search.proofs.row_passes.Goals.{After-numbers_from-h}
 use Rattle.search.proofs.row_passes.Goals as goal
 
@@ -11,12 +11,12 @@ unpacked c = record { priorities = c.priorities_of-p.ensures; thresholds = c.num
 
 pub passes-requires : goal.passes-requires
 passes-requires c =
-    (c.requires.0, row-placed _ _ c.requires.0.few c.requires.1 (unpacked (goal.at.passes-requires c).After-numbers_from-h) (sym c.front_holds.ensures ∙ c.if-front_holds.true))
+    (c.requires.0, row_placed _ _ c.requires.0.few c.requires.1 (unpacked (goal.at.passes-requires c).After-numbers_from-h) (sym c.front_holds.ensures ∙ c.if-front_holds.true))
 
 pub returns-then-front_holds : goal.returns-then-front_holds
 returns-then-front_holds c =
-    row-tested _ _ (sym c.front_holds.ensures ∙ c.if-front_holds.true)
-    (same-assignment _ _ c.requires.0.few c.requires.1 (unpacked (goal.at.returns-then-front_holds c).After-numbers_from-h)) c.passes.ensures
+    row_tested _ _ (sym c.front_holds.ensures ∙ c.if-front_holds.true)
+    (same_assignment _ _ c.requires.0.few c.requires.1 (unpacked (goal.at.returns-then-front_holds c).After-numbers_from-h)) c.passes.ensures
 
 pub returns : goal.returns
-returns c = ill-formed _ _ (sym c.front_holds.ensures ∙ c.if-front_holds.false)
+returns c = ill_formed _ _ (sym c.front_holds.ensures ∙ c.if-front_holds.false)

@@ -1,10 +1,10 @@
 use native.Mathlib.Omega.{arith}
 use Rattle.search.specs.Search.{Finds}
-use Rattle.search.proofs.Moves.{state-start, bump, on, back, over, found, under, leaf}
+use Rattle.search.proofs.Moves.{state_start, bump, on, back, over, found, under, leaf}
 use Rattle.search.proofs.search.Goals as goal
 
 pub loop-digits-init : goal.loop-digits-init
-loop-digits-init c = state-start _ _ _ c.requires.1
+loop-digits-init c = state_start _ _ _ c.requires.1
 
 pub returns-then-pos-eq0 : goal.returns-then-pos-eq0
 unfolding Finds

@@ -15,13 +15,13 @@ use Rattle.show_facts.specs.Facts.{fits_at, facts_of}
 use Rattle.show_facts.specs.declared.Facts.{Facts}
 use Rattle.show_facts.proofs.facts_of.Goals as goal
 
-facts-are : (t : Table) (own catalogue : List ℕ) {times : TimesAnswer} {tolerances lengths : TicksAnswer} {fits : List Bool} {check : FitAnswer} {points : PointsAnswer}
+facts_are : (t : Table) (own catalogue : List ℕ) {times : TimesAnswer} {tolerances lengths : TicksAnswer} {fits : List Bool} {check : FitAnswer} {points : PointsAnswer}
     → times ≡ times_answer t → tolerances ≡ tolerances_answer t → lengths ≡ lengths_answer t
     → fits ≡ list_to most_tasks (fits_at t.records lengths.ticks own catalogue) → check ≡ fit_answer t own catalogue → points ≡ points_answer t own catalogue
     → ◌≡◌ {A = Facts} (record { table = t; times = times; tolerances = tolerances; lengths = lengths; fits = fits; check = check; points = points }) (facts_of t own catalogue)
-facts-are t own catalogue e f g h i j = rw (e, f, h, g, i, j)
+facts_are t own catalogue e f g h i j = rw (e, f, h, g, i, j)
 
 pub returns : goal.returns
 returns c =
-    facts-are c.args.t c.args.own.now c.args.catalogue.now c.response_times-times.ensures c.tolerances-tolerances.ensures c.lengths-lengths.ensures
+    facts_are c.args.t c.args.own.now c.args.catalogue.now c.response_times-times.ensures c.tolerances-tolerances.ensures c.lengths-lengths.ensures
     c.all_fits-fits.ensures c.region_check-check.ensures c.point_check-points.ensures

@@ -1,10 +1,10 @@
 use mathlib.Core.Path.{refl}
 use native.Mathlib.Omega.{arith}
-use Rattle.tolerance.proofs.Stretches.{stretch-none, stretch-more}
+use Rattle.tolerance.proofs.Stretches.{stretch_none, stretch_more}
 use Rattle.tolerance.proofs.stretch.Goals as goal
 
 pub loop-j-init : goal.loop-j-init
-loop-j-init c = (omega arith, stretch-none c.requires.ranged c.requires.i_lt_n c.requires.from_lt_last.1 refl c.cost.ensures c.requires.from_lt_last.0)
+loop-j-init c = (omega arith, stretch_none c.requires.ranged c.requires.i_lt_n c.requires.from_lt_last.1 refl c.cost.ensures c.requires.from_lt_last.0)
 
 pub loop-j-preserved : goal.loop-j-preserved
 loop-j-preserved c =
@@ -12,5 +12,5 @@ loop-j-preserved c =
     let h = c.loop-j-test.true in (
       omega arith,
       rw (c.with_task-s.ensures, c.cost-c.ensures, c.period-t.ensures, c.jitter-late.ensures)
-          (stretch-more c.requires.ranged c.requires.i_lt_n c.requires.from_lt_last.1 c.requires.from_lt_last.0 h l.invariant.1),
+          (stretch_more c.requires.ranged c.requires.i_lt_n c.requires.from_lt_last.1 c.requires.from_lt_last.0 h l.invariant.1),
     )
