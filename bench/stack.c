@@ -1,6 +1,6 @@
 /* How much stack each call of the core uses: each runs on a stack of its own that was painted before, on the fullest table
    there is, and what is no longer painted was used. `bash tools/stack` builds and runs it, for x86-64. No header is named, so
-   that the toolchain's own compiler builds it on any machine. */
+   that the toolchain's own compiler builds it by itself. */
 
 typedef unsigned char byte;
 typedef unsigned int word;
