@@ -41,7 +41,7 @@ use random::Random;
 use std::hint::black_box;
 use table::*;
 
-/// The core's calls, by numbers and slices (crates/bench). A table is the bytes of a request's.
+/// The core's calls, by numbers and slices (crates/bench_c). A table is the bytes of a request's.
 mod core {
     use crate::table::MOST_TASKS;
     use crate::TASK_COLUMNS;

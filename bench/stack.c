@@ -1,6 +1,6 @@
 /* How much stack each call of the core uses: each runs on a stack of its own that was painted before, on the fullest table
    there is, and what is no longer painted was used. `bash tools/stack` builds and runs it, for x86-64. No header is named, so
-   that the toolchain's own compiler builds it on any machine. */
+   that the toolchain's own compiler builds it by itself. */
 
 typedef unsigned char byte;
 typedef unsigned int word;
@@ -9,7 +9,7 @@ typedef unsigned long size;
 int printf(const char *, ...);
 void exit(int);
 
-/* The core's calls (crates/bench): a slice is two parameters, its start and its length. */
+/* The core's calls (crates/bench_c): a slice is two parameters, its start and its length. */
 size bench_read(const byte *file, size file_len, word cabinet, unsigned short line, word *out, size out_len);
 size bench_write(const byte *table, size table_len, const word *own, size own_len, byte *out, size out_len);
 size bench_times(const byte *table, size table_len);

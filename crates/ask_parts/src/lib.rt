@@ -1,65 +1,76 @@
 // Kinds 9 to 12: the parts handed back.
-ghost use Prim.Native.Nat.{_≤_};
-ghost use lib.ListN.{length};
-use paper::Cabinet;
-use paper::Line;
-use paper::Outcome;
-use paper::Table;
-use request::MOST_BODY_WORDS;
-use request::TABLE_BYTES;
+#![tactic(auto)]
+
+ghost use Rattle.std.specs.Prelude.{◌≤◌, length};
+
+use paper::{Cabinet, Line, Outcome, Table};
+use request::{MOST_BODY_WORDS, TABLE_BYTES};
 
 // A part in hexadecimal, or a refusal.
-fn put_bytes(buf: &mut [u8], outcome: Outcome, name: &[u8], part: &[u8]) -> usize
-    ensures { λ r. ⌜ r ≤ length (now (buf .entry)) ⌝ }
+fn put_bytes<R: Print + Eprint>(
+    rt: &R,
+    buf: &mut [u8],
+    outcome: Outcome,
+    name: &[u8],
+    part: &[u8],
+) -> usize
+    ensures { result ≤ length buf.old }
 {
     match outcome {
-        Outcome::Refused(r) => say::refused(buf, 0, r),
+        Outcome::Refused(r) => say::refused(rt, buf, 0, r),
         Outcome::Done => {
-            let named = say::word(buf, 0, name);
-            say::hexadecimal(buf, named, part)
+            let named = say::word(rt, buf, 0, name);
+            say::hexadecimal(rt, buf, named, part)
         }
     }
 }
 
 // A part in words, or a refusal.
-fn put_words(buf: &mut [u8], outcome: Outcome, name: &[u8], part: &[u32]) -> usize
-    ensures { λ r. ⌜ r ≤ length (now (buf .entry)) ⌝ }
+fn put_words<R: Print + Eprint>(
+    rt: &R,
+    buf: &mut [u8],
+    outcome: Outcome,
+    name: &[u8],
+    part: &[u32],
+) -> usize
+    ensures { result ≤ length buf.old }
 {
     match outcome {
-        Outcome::Refused(r) => say::refused(buf, 0, r),
+        Outcome::Refused(r) => say::refused(rt, buf, 0, r),
         Outcome::Done => {
-            let named = say::word(buf, 0, name);
-            say::words(buf, named, part)
+            let named = say::word(rt, buf, 0, name);
+            say::words(rt, buf, named, part)
         }
     }
 }
 
-fn put_regions(buf: &mut [u8], outcome: Outcome, part: &[u32]) -> usize
-    ensures { λ r. ⌜ r ≤ length (now (buf .entry)) ⌝ }
+fn put_regions<R: Print + Eprint>(rt: &R, buf: &mut [u8], outcome: Outcome, part: &[u32]) -> usize
+    ensures { result ≤ length buf.old }
 {
-    put_words(buf, outcome, b"regions", part)
+    put_words(rt, buf, outcome, b"regions", part)
 }
 
-fn put_last(buf: &mut [u8], outcome: Outcome, part: &[u32]) -> usize
-    ensures { λ r. ⌜ r ≤ length (now (buf .entry)) ⌝ }
+fn put_last<R: Print + Eprint>(rt: &R, buf: &mut [u8], outcome: Outcome, part: &[u32]) -> usize
+    ensures { result ≤ length buf.old }
 {
-    put_words(buf, outcome, b"last", part)
+    put_words(rt, buf, outcome, b"last", part)
 }
 
-fn put_record(buf: &mut [u8], outcome: Outcome, part: &[u8]) -> usize
-    ensures { λ r. ⌜ r ≤ length (now (buf .entry)) ⌝ }
+fn put_record<R: Print + Eprint>(rt: &R, buf: &mut [u8], outcome: Outcome, part: &[u8]) -> usize
+    ensures { result ≤ length buf.old }
 {
-    put_bytes(buf, outcome, b"record", part)
+    put_bytes(rt, buf, outcome, b"record", part)
 }
 
-fn put_name(buf: &mut [u8], outcome: Outcome, part: &[u8]) -> usize
-    ensures { λ r. ⌜ r ≤ length (now (buf .entry)) ⌝ }
+fn put_name<R: Print + Eprint>(rt: &R, buf: &mut [u8], outcome: Outcome, part: &[u8]) -> usize
+    ensures { result ≤ length buf.old }
 {
-    put_bytes(buf, outcome, b"name", part)
+    put_bytes(rt, buf, outcome, b"name", part)
 }
 
-// Each calls a joined call and takes apart what it hands back. No covered form does that, so these four are walked by hand.
-fn say_record<'a>(
+// Each calls a joined call and takes apart what it hands back.
+fn say_record<'a, R: Print + Eprint>(
+    rt: &R,
     buf: &mut [u8],
     file: &'a [u8],
     cabinet: Cabinet,
@@ -67,47 +78,55 @@ fn say_record<'a>(
     catalogue: &[u32],
     number: usize,
 ) -> usize
-    ensures { λ r. ⌜ r ≤ length (now (buf .entry)) ⌝ }
+    ensures { result ≤ length buf.old }
 {
     let part = parts::record(file, cabinet, line, catalogue, number);
-    put_record(buf, part.outcome, part.bytes)
+    put_record(rt, buf, part.outcome, part.bytes)
 }
 
-fn say_regions<'a>(
+fn say_regions<'a, R: Print + Eprint>(
+    rt: &R,
     buf: &mut [u8],
     t: Table,
     own: &'a [u32],
     catalogue: &'a [u32],
     number: usize,
 ) -> usize
-    ensures { λ r. ⌜ r ≤ length (now (buf .entry)) ⌝ }
+    ensures { result ≤ length buf.old }
 {
     let part = parts::regions(t, own, catalogue, number);
-    put_regions(buf, part.outcome, part.words)
+    put_regions(rt, buf, part.outcome, part.words)
 }
 
-fn say_last<'a>(
+fn say_last<'a, R: Print + Eprint>(
+    rt: &R,
     buf: &mut [u8],
     t: Table,
     own: &'a [u32],
     catalogue: &'a [u32],
     number: usize,
 ) -> usize
-    ensures { λ r. ⌜ r ≤ length (now (buf .entry)) ⌝ }
+    ensures { result ≤ length buf.old }
 {
     let part = last_part::last_region(t, own, catalogue, number);
-    put_last(buf, part.outcome, part.words)
+    put_last(rt, buf, part.outcome, part.words)
 }
 
-fn say_name<'a>(buf: &mut [u8], number: u32, cabinet: &'a [u8], house: &'a [u8]) -> usize
-    ensures { λ r. ⌜ r ≤ length (now (buf .entry)) ⌝ }
+fn say_name<'a, R: Print + Eprint>(
+    rt: &R,
+    buf: &mut [u8],
+    number: u32,
+    cabinet: &'a [u8],
+    house: &'a [u8],
+) -> usize
+    ensures { result ≤ length buf.old }
 {
     let part = parts::name(number, cabinet, house);
-    put_name(buf, part.outcome, part.bytes)
+    put_name(rt, buf, part.outcome, part.bytes)
 }
 
-pub fn record(buf: &mut [u8], body: &[u8]) -> usize
-    ensures { λ r. ⌜ r ≤ length (now (buf .entry)) ⌝ }
+pub fn record<R: Print + Eprint>(rt: &R, buf: &mut [u8], body: &[u8]) -> usize
+    ensures { result ≤ length buf.old }
 {
     let cabinet = request::cabinet_at(body, 0);
     let line = request::line_at(body, 4);
@@ -115,19 +134,20 @@ pub fn record(buf: &mut [u8], body: &[u8]) -> usize
     let file = request::bytes_at(body, request::words_end(body, 8));
     let mut catalogue = [0u32; MOST_BODY_WORDS];
     let m = request::take_words(body, 8, &mut catalogue);
-    say_record(buf, file, cabinet, line, &catalogue[..m], number)
+    say_record(rt, buf, file, cabinet, line, &catalogue[..m], number)
 }
 
 const OWN: usize = 2 + TABLE_BYTES;
 
 // What is handed back of a task's regions.
+#[derive(Clone, Copy)]
 enum Which {
     All,
     Last,
 }
 
-fn regions_by(buf: &mut [u8], body: &[u8], which: Which) -> usize
-    ensures { λ r. ⌜ r ≤ length (now (buf .entry)) ⌝ }
+fn regions_by<R: Print + Eprint>(rt: &R, buf: &mut [u8], body: &[u8], which: Which) -> usize
+    ensures { result ≤ length buf.old }
 {
     let number = request::two_at(body, 0);
     let t = request::table_at(body, 2);
@@ -136,28 +156,28 @@ fn regions_by(buf: &mut [u8], body: &[u8], which: Which) -> usize
     let mut catalogue = [0u32; MOST_BODY_WORDS];
     let k = request::take_words(body, request::words_end(body, OWN), &mut catalogue);
     match which {
-        Which::All => say_regions(buf, t, &own[..m], &catalogue[..k], number),
-        Which::Last => say_last(buf, t, &own[..m], &catalogue[..k], number),
+        Which::All => say_regions(rt, buf, t, &own[..m], &catalogue[..k], number),
+        Which::Last => say_last(rt, buf, t, &own[..m], &catalogue[..k], number),
     }
 }
 
-pub fn regions(buf: &mut [u8], body: &[u8]) -> usize
-    ensures { λ r. ⌜ r ≤ length (now (buf .entry)) ⌝ }
+pub fn regions<R: Print + Eprint>(rt: &R, buf: &mut [u8], body: &[u8]) -> usize
+    ensures { result ≤ length buf.old }
 {
-    regions_by(buf, body, Which::All)
+    regions_by(rt, buf, body, Which::All)
 }
 
-pub fn last(buf: &mut [u8], body: &[u8]) -> usize
-    ensures { λ r. ⌜ r ≤ length (now (buf .entry)) ⌝ }
+pub fn last<R: Print + Eprint>(rt: &R, buf: &mut [u8], body: &[u8]) -> usize
+    ensures { result ≤ length buf.old }
 {
-    regions_by(buf, body, Which::Last)
+    regions_by(rt, buf, body, Which::Last)
 }
 
-pub fn name(buf: &mut [u8], body: &[u8]) -> usize
-    ensures { λ r. ⌜ r ≤ length (now (buf .entry)) ⌝ }
+pub fn name<R: Print + Eprint>(rt: &R, buf: &mut [u8], body: &[u8]) -> usize
+    ensures { result ≤ length buf.old }
 {
     let number = request::two_at(body, 0) as u32;
     let cabinet = request::bytes_at(body, 2);
     let house = request::bytes_at(body, request::bytes_end(body, 2));
-    say_name(buf, number, cabinet, house)
+    say_name(rt, buf, number, cabinet, house)
 }

@@ -1,63 +1,66 @@
 // Kind 13: fixed preemption points.
-ghost use Prim.Native.Nat.{_≤_};
-ghost use lib.ListN.{length};
-ghost use Rattle·paper.specs.Numbers.{mostTasks};
-use paper::MOST_TASKS;
-use paper::Outcome;
-use paper::PointVerdict;
-use paper::PointsAnswer;
-use paper::Shown;
-use request::MOST_BODY_WORDS;
-use request::TABLE_BYTES;
+#![tactic(auto)]
 
-fn put_shown(buf: &mut [u8], at: usize, shown: Shown) -> usize
-    requires { ⌜ at ≤ length (now buf) ⌝ }
-    ensures { λ r. ⌜ r ≤ length (now (buf .entry)) ⌝ }
+ghost use Rattle.std.specs.Prelude.{◌≤◌, length};
+ghost use Rattle.paper.specs.Numbers.{most_tasks};
+
+use paper::{MOST_TASKS, Outcome, PointVerdict, PointsAnswer, Shown};
+use request::{MOST_BODY_WORDS, TABLE_BYTES};
+
+fn put_shown<R: Print + Eprint>(rt: &R, buf: &mut [u8], at: usize, shown: Shown) -> usize
+    requires { at ≤ length buf.old }
+    ensures { result ≤ length buf.old }
 {
     match shown {
-        Shown::Passes => say::word(buf, at, b" passes"),
-        Shown::NotShown => say::word(buf, at, b" unshown"),
+        Shown::Passes => say::word(rt, buf, at, b" passes"),
+        Shown::NotShown => say::word(rt, buf, at, b" unshown"),
     }
 }
 
-fn put_verdict(buf: &mut [u8], at: usize, task: PointVerdict) -> usize
-    requires { ⌜ at ≤ length (now buf) ⌝ }
-    ensures { λ r. ⌜ r ≤ length (now (buf .entry)) ⌝ }
+fn put_verdict<R: Print + Eprint>(rt: &R, buf: &mut [u8], at: usize, task: PointVerdict) -> usize
+    requires { at ≤ length buf.old }
+    ensures { result ≤ length buf.old }
 {
     let shown = task.verdict;
-    put_shown(buf, at, shown)
+    put_shown(rt, buf, at, shown)
 }
 
-fn put_verdicts(buf: &mut [u8], at: usize, tasks: [PointVerdict; MOST_TASKS], n: usize) -> usize
-    requires { ⌜ at ≤ length (now buf) ⌝ }
-    requires { ⌜ n ≤ mostTasks ⌝ }
-    ensures { λ r. ⌜ r ≤ length (now (buf .entry)) ⌝ }
+fn put_verdicts<R: Print + Eprint>(
+    rt: &R,
+    buf: &mut [u8],
+    at: usize,
+    tasks: [PointVerdict; MOST_TASKS],
+    n: usize,
+) -> usize
+    requires at_in_bounds { at ≤ length buf.old }
+    requires n_le_most_tasks { n ≤ most_tasks }
+    ensures { result ≤ length buf.old }
 {
     let mut end = at;
     let mut k: usize = 0;
     while k < n {
-        end = put_verdict(buf, end, tasks[k]);
+        end = put_verdict(rt, buf, end, tasks[k]);
         k += 1;
     }
     end
 }
 
-fn put_points(buf: &mut [u8], answer: PointsAnswer, n: usize) -> usize
-    ensures { λ r. ⌜ r ≤ length (now (buf .entry)) ⌝ }
+fn put_points<R: Print + Eprint>(rt: &R, buf: &mut [u8], answer: PointsAnswer, n: usize) -> usize
+    ensures { result ≤ length buf.old }
 {
     let outcome = answer.outcome;
     match outcome {
-        Outcome::Refused(r) => say::refused(buf, 0, r),
+        Outcome::Refused(r) => say::refused(rt, buf, 0, r),
         Outcome::Done => {
             let tasks = answer.tasks;
-            let named = say::word(buf, 0, b"points");
-            put_verdicts(buf, named, tasks, fronts::smaller(n, MOST_TASKS))
+            let named = say::word(rt, buf, 0, b"points");
+            put_verdicts(rt, buf, named, tasks, fronts::smaller(n, MOST_TASKS))
         }
     }
 }
 
-pub fn points(buf: &mut [u8], body: &[u8]) -> usize
-    ensures { λ r. ⌜ r ≤ length (now (buf .entry)) ⌝ }
+pub fn points<R: Print + Eprint>(rt: &R, buf: &mut [u8], body: &[u8]) -> usize
+    ensures { result ≤ length buf.old }
 {
     let t = request::table_at(body, 0);
     let n = t.n;
@@ -65,5 +68,10 @@ pub fn points(buf: &mut [u8], body: &[u8]) -> usize
     let m = request::take_words(body, TABLE_BYTES, &mut own);
     let mut catalogue = [0u32; MOST_BODY_WORDS];
     let k = request::take_words(body, request::words_end(body, TABLE_BYTES), &mut catalogue);
-    put_points(buf, points::point_check(t, &own[..m], &catalogue[..k]), n)
+    put_points(
+        rt,
+        buf,
+        points::point_check(t, &own[..m], &catalogue[..k]),
+        n,
+    )
 }

@@ -1,48 +1,49 @@
 // Kinds 7 and 8: the list of assignments.
-ghost use Prim.Native.Nat.{_≤_};
-ghost use lib.ListN.{length};
-use paper::RowAnswer;
-use request::FILL;
-use request::TABLE_BYTES;
+#![tactic(auto)]
 
-fn put_answer(buf: &mut [u8], answer: RowAnswer) -> usize
-    ensures { λ r. ⌜ r ≤ length (now (buf .entry)) ⌝ }
+ghost use Rattle.std.specs.Prelude.{◌≤◌, length};
+
+use paper::RowAnswer;
+use request::{FILL, TABLE_BYTES};
+
+fn put_answer<R: Print + Eprint>(rt: &R, buf: &mut [u8], answer: RowAnswer) -> usize
+    ensures { result ≤ length buf.old }
 {
     match answer {
-        RowAnswer::Row => say::word(buf, 0, b"row"),
-        RowAnswer::End => say::word(buf, 0, b"end"),
-        RowAnswer::Refused(r) => say::refused(buf, 0, r),
+        RowAnswer::Row => say::word(rt, buf, 0, b"row"),
+        RowAnswer::End => say::word(rt, buf, 0, b"end"),
+        RowAnswer::Refused(r) => say::refused(rt, buf, 0, r),
     }
 }
 
 // `out` is all that is lent.
-fn first_into(buf: &mut [u8], body: &[u8], out: &mut [u8]) -> usize
-    ensures { λ r. ⌜ r ≤ length (now (buf .entry)) ⌝ }
+fn first_into<R: Print + Eprint>(rt: &R, buf: &mut [u8], body: &[u8], out: &mut [u8]) -> usize
+    ensures { result ≤ length buf.old }
 {
     let t = request::table_at(body, 2);
-    let said = put_answer(buf, listing::first_row(t, out));
-    say::out_row(buf, said, out)
+    let said = put_answer(rt, buf, listing::first_row(t, out));
+    say::out_row(rt, buf, said, out)
 }
 
-pub fn first(buf: &mut [u8], body: &[u8], bytes: &mut [u8]) -> usize
-    ensures { λ r. ⌜ r ≤ length (now (buf .entry)) ⌝ }
+pub fn first<R: Print + Eprint>(rt: &R, buf: &mut [u8], body: &[u8], bytes: &mut [u8]) -> usize
+    ensures { result ≤ length buf.old }
 {
     let room = fronts::fill_bytes(bytes, request::two_at(body, 0), FILL);
-    first_into(buf, body, &mut bytes[..room])
+    first_into(rt, buf, body, &mut bytes[..room])
 }
 
-fn next_into(buf: &mut [u8], body: &[u8], out: &mut [u8]) -> usize
-    ensures { λ r. ⌜ r ≤ length (now (buf .entry)) ⌝ }
+fn next_into<R: Print + Eprint>(rt: &R, buf: &mut [u8], body: &[u8], out: &mut [u8]) -> usize
+    ensures { result ≤ length buf.old }
 {
     let t = request::table_at(body, 2);
     let given = request::bytes_at(body, 2 + TABLE_BYTES);
-    let said = put_answer(buf, listing::next_row(t, given, out));
-    say::out_row(buf, said, out)
+    let said = put_answer(rt, buf, listing::next_row(t, given, out));
+    say::out_row(rt, buf, said, out)
 }
 
-pub fn next(buf: &mut [u8], body: &[u8], bytes: &mut [u8]) -> usize
-    ensures { λ r. ⌜ r ≤ length (now (buf .entry)) ⌝ }
+pub fn next<R: Print + Eprint>(rt: &R, buf: &mut [u8], body: &[u8], bytes: &mut [u8]) -> usize
+    ensures { result ≤ length buf.old }
 {
     let room = fronts::fill_bytes(bytes, request::two_at(body, 0), FILL);
-    next_into(buf, body, &mut bytes[..room])
+    next_into(rt, buf, body, &mut bytes[..room])
 }

@@ -19,8 +19,7 @@ fn seal_byte(c: u16, b: u8) -> u16 {
     x
 }
 
-#[no_mangle]
-pub extern "C" fn bench_seal_bits(s: &[u8]) -> u16 {
+pub fn bench_seal_bits(s: &[u8]) -> u16 {
     let mut c: u16 = 0xffff;
     let mut i: usize = 0;
     while i < s.len() {

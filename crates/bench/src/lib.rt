@@ -1,25 +1,20 @@
-// The calls, for the programs in other languages that measure their time and their stack. A table comes as a request has it; a
-// slice is two parameters there, its start and its length. Where a call is turned away, the answer is the refusal's number.
-// Only those programs link this crate: `bench_passes` has a `requires`, which nothing checks on the other side.
+// The calls by numbers and slices alone, for the programs that measure their time and their stack. A table comes as a request has
+// it. Where a call is turned away, the answer is the refusal's number. `bench_c` exports them to those programs, which are in other
+// languages.
+#![tactic(auto)]
+
 mod bit_by_bit;
 
-ghost use Prim.Native.Nat.{_*_, _≤_};
-ghost use Rattle·paper.specs.Numbers.{horizon};
-ghost use Rattle·columns.specs.Columns.{tasksBy, assignedBy, Ranged, Placed};
-use columns::Numbers;
-use columns::Tasks;
-use paper::Cabinet;
-use paper::FitAnswer;
-use paper::HORIZON;
-use paper::Line;
-use paper::MOST_TASKS;
-use paper::Outcome;
-use paper::PointVerdict;
-use paper::Response;
-use paper::RowAnswer;
-use paper::Shown;
-use paper::Time;
-use paper::WriteAnswer;
+ghost use Rattle.std.specs.Prelude.{◌*◌, ◌≤◌};
+ghost use Rattle.paper.specs.Numbers.{horizon};
+ghost use Rattle.columns.specs.Columns.{tasks_by, assigned_by, Ranged, Placed};
+
+pub use bit_by_bit::bench_seal_bits;
+use columns::{Numbers, Tasks};
+use paper::{
+    Cabinet, FitAnswer, HORIZON, Line, MOST_TASKS, Outcome, PointVerdict, Response, RowAnswer,
+    Shown, Time, WriteAnswer,
+};
 
 fn number(outcome: Outcome) -> u64 {
     match outcome {
@@ -28,8 +23,7 @@ fn number(outcome: Outcome) -> u64 {
     }
 }
 
-#[no_mangle]
-pub extern "C" fn bench_read(file: &[u8], cabinet: u32, line: u16, out: &mut [u32]) -> u64 {
+pub fn bench_read(file: &[u8], cabinet: u32, line: u16, out: &mut [u32]) -> u64 {
     let catalogue: [u32; 0] = [];
     let answer = reader::read(file, Cabinet(cabinet), Line(line), &catalogue, out);
     let outcome = answer.outcome;
@@ -37,8 +31,7 @@ pub extern "C" fn bench_read(file: &[u8], cabinet: u32, line: u16, out: &mut [u3
 }
 
 // Edition 1.
-#[no_mangle]
-pub extern "C" fn bench_write(table: &[u8], own: &[u32], out: &mut [u8]) -> u64 {
+pub fn bench_write(table: &[u8], own: &[u32], out: &mut [u8]) -> u64 {
     let t = request::table_at(table, 0);
     let catalogue: [u32; 0] = [];
     let answer = writer::write(1, t, Cabinet(70001), Line(12), own, &catalogue, out);
@@ -49,15 +42,14 @@ pub extern "C" fn bench_write(table: &[u8], own: &[u32], out: &mut [u8]) -> u64 
 }
 
 // The seal of the bytes s, as reading and writing use it.
-#[no_mangle]
-pub extern "C" fn bench_seal(s: &[u8]) -> u16 {
+pub fn bench_seal(s: &[u8]) -> u16 {
     seal::seal_of(s)
 }
 
 // A response time and its job. Both lie below twice the horizon, as F and J each lie at most at it and J below a period: the
 // remainders only say so where the sum is proved not to wrap.
 fn both(r: Response) -> u64
-    ensures { λ x. ⌜ x ≤ 4 * horizon ⌝ }
+    ensures { result ≤ 4 * horizon }
 {
     let time = r.time;
     match time {
@@ -77,8 +69,7 @@ fn sum_of(times: [Response; MOST_TASKS]) -> u64 {
     sum
 }
 
-#[no_mangle]
-pub extern "C" fn bench_times(table: &[u8]) -> u64 {
+pub fn bench_times(table: &[u8]) -> u64 {
     let t = request::table_at(table, 0);
     let answer = response::response_times(t);
     let times = answer.times;
@@ -86,8 +77,7 @@ pub extern "C" fn bench_times(table: &[u8]) -> u64 {
 }
 
 // The last task's; 0 where there is no task, or too many.
-#[no_mangle]
-pub extern "C" fn bench_tolerances(table: &[u8]) -> i64 {
+pub fn bench_tolerances(table: &[u8]) -> i64 {
     let t = request::table_at(table, 0);
     let n = t.n;
     let answer = lengths::tolerances(t);
@@ -101,16 +91,14 @@ pub extern "C" fn bench_tolerances(table: &[u8]) -> i64 {
     ticks[n - 1]
 }
 
-#[no_mangle]
-pub extern "C" fn bench_lengths(table: &[u8]) -> u64 {
+pub fn bench_lengths(table: &[u8]) -> u64 {
     let t = request::table_at(table, 0);
     let answer = lengths::lengths(t);
     let outcome = answer.outcome;
     number(outcome)
 }
 
-#[no_mangle]
-pub extern "C" fn bench_fit(table: &[u8], own: &[u32]) -> u64 {
+pub fn bench_fit(table: &[u8], own: &[u32]) -> u64 {
     let t = request::table_at(table, 0);
     let catalogue: [u32; 0] = [];
     match lengths::region_check(t, own, &catalogue) {
@@ -120,7 +108,7 @@ pub extern "C" fn bench_fit(table: &[u8], own: &[u32]) -> u64 {
 }
 
 fn passing(task: PointVerdict) -> u64
-    ensures { λ x. ⌜ x ≤ 1 ⌝ }
+    ensures { result ≤ 1 }
 {
     let verdict = task.verdict;
     match verdict {
@@ -140,8 +128,7 @@ fn all_passing(tasks: [PointVerdict; MOST_TASKS]) -> u64 {
 }
 
 // How many tasks pass the test of fixed preemption points; none where the call is turned away.
-#[no_mangle]
-pub extern "C" fn bench_points(table: &[u8], own: &[u32]) -> u64 {
+pub fn bench_points(table: &[u8], own: &[u32]) -> u64 {
     let t = request::table_at(table, 0);
     let catalogue: [u32; 0] = [];
     let answer = points::point_check(t, own, &catalogue);
@@ -156,51 +143,44 @@ fn number_of_row(answer: RowAnswer) -> u64 {
     }
 }
 
-#[no_mangle]
-pub extern "C" fn bench_first(table: &[u8], out: &mut [u8]) -> u64 {
+pub fn bench_first(table: &[u8], out: &mut [u8]) -> u64 {
     let t = request::table_at(table, 0);
     number_of_row(listing::first_row(t, out))
 }
 
-#[no_mangle]
-pub extern "C" fn bench_next(table: &[u8], given: &[u8], out: &mut [u8]) -> u64 {
+pub fn bench_next(table: &[u8], given: &[u8], out: &mut [u8]) -> u64 {
     let t = request::table_at(table, 0);
     number_of_row(listing::next_row(t, given, out))
 }
 
 // The parts: how many bytes or words there are, none where the call is turned away.
-#[no_mangle]
-pub extern "C" fn bench_record(file: &[u8], cabinet: u32, line: u16, record: usize) -> usize {
+pub fn bench_record(file: &[u8], cabinet: u32, line: u16, record: usize) -> usize {
     let catalogue: [u32; 0] = [];
     let part = parts::record_bytes(file, Cabinet(cabinet), Line(line), &catalogue, record);
     part.len()
 }
 
-#[no_mangle]
-pub extern "C" fn bench_regions(table: &[u8], own: &[u32], record: usize) -> usize {
+pub fn bench_regions(table: &[u8], own: &[u32], record: usize) -> usize {
     let t = request::table_at(table, 0);
     let catalogue: [u32; 0] = [];
     let part = parts::regions_words(t, own, &catalogue, record);
     part.len()
 }
 
-#[no_mangle]
-pub extern "C" fn bench_last(table: &[u8], own: &[u32], record: usize) -> usize {
+pub fn bench_last(table: &[u8], own: &[u32], record: usize) -> usize {
     let t = request::table_at(table, 0);
     let catalogue: [u32; 0] = [];
     let part = last_part::last_word(t, own, &catalogue, record);
     part.len()
 }
 
-#[no_mangle]
-pub extern "C" fn bench_name(name: u32, list: &[u8]) -> usize {
+pub fn bench_name(name: u32, list: &[u8]) -> usize {
     let part = parts::name_bytes(name, list, list);
     part.len()
 }
 
-#[no_mangle]
-pub extern "C" fn bench_passes(n: usize, y: &Tasks, p: &Numbers, h: &Numbers) -> bool
-    requires { ⌜ Ranged (tasksBy n (now y)) × Placed n (assignedBy (now p) (now h)) ⌝ }
+pub fn bench_passes(n: usize, y: &Tasks, p: &Numbers, h: &Numbers) -> bool
+    requires { Ranged (tasks_by n y.now) × Placed n (assigned_by p.now h.now) }
 {
     response::passes(n, y, p, h)
 }

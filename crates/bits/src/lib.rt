@@ -1,42 +1,42 @@
 // Packed fields: a field of any width got and put, and a list of fields put.
-ghost use mathlib.Core.Path.{_≡_};
-ghost use Prim.Native.Nat.{_+_, _-_, _*_, _/_, _%_, _<_, _≤_, _^_};
-ghost use lib.ListN.{length, getD};
-ghost use Rattle·paper.specs.Bits.{field, putField, putFields};
-ghost use Rattle·bits·specs.specs.Fields.{total, withBits};
+#![tactic(auto)]
+
+ghost use Rattle.std.specs.Prelude.{◌≡◌, ◌+◌, ◌-◌, ◌*◌, ◌/◌, ◌%◌, ◌<◌, ◌≤◌, ◌^◌, length, get_or};
+ghost use Rattle.paper.specs.Bits.{field, put_field, put_fields};
+ghost use Rattle.bits.specs.Fields.{total, with_bits};
 
 // 2 to the power k.
 fn weight(k: usize) -> u64
-    requires { ⌜ k < 64 ⌝ }
-    ensures { λ r. ⌜ (r ≡ 2 ^ k) × (0 < r) ⌝ }
+    requires { k < 64 }
+    ensures { (result ≡ 2 ^ k) × (0 < result) }
 {
     1 << k
 }
 
 // Five bytes as one number, the first the highest.
 fn joined(a: u8, b: u8, c: u8, d: u8, e: u8) -> u64
-    ensures { λ r. ⌜ r ≡ (((a * 256 + b) * 256 + c) * 256 + d) * 256 + e ⌝ }
+    ensures { result ≡ (((a * 256 + b) * 256 + c) * 256 + d) * 256 + e }
 {
     ((((a as u64) * 256 + (b as u64)) * 256 + (c as u64)) * 256 + (d as u64)) * 256 + (e as u64)
 }
 
 fn five_inside(s: &[u8], i: usize) -> u64
-    requires { ⌜ i + 5 ≤ length (now s) ⌝ }
-    ensures { λ r. ⌜ r ≡ field (now (s .entry)) (i * 8) 40 ⌝ }
+    requires { i + 5 ≤ length s.now }
+    ensures { result ≡ field s.now (i * 8) 40 }
 {
     joined(s[i], s[i + 1], s[i + 2], s[i + 3], s[i + 4])
 }
 
 // The byte at i, or 0 past the end.
 fn byte(s: &[u8], i: usize) -> u8
-    ensures { λ r. ⌜ r ≡ getD (now (s .entry)) i 0 ⌝ }
+    ensures { result ≡ get_or s.now i 0 }
 {
     if i < s.len() { s[i] } else { 0 }
 }
 
 fn five_at_end(s: &[u8], i: usize) -> u64
-    requires { ⌜ i < 2 ^ 32 ⌝ }
-    ensures { λ r. ⌜ r ≡ field (now (s .entry)) (i * 8) 40 ⌝ }
+    requires { i < 2 ^ 32 }
+    ensures { result ≡ field s.now (i * 8) 40 }
 {
     joined(
         byte(s, i),
@@ -49,8 +49,8 @@ fn five_at_end(s: &[u8], i: usize) -> u64
 
 // The five bytes from i on as one number, those past the end 0.
 fn five(s: &[u8], i: usize) -> u64
-    requires { ⌜ i < 2 ^ 32 ⌝ }
-    ensures { λ r. ⌜ r ≡ field (now (s .entry)) (i * 8) 40 ⌝ }
+    requires { i < 2 ^ 32 }
+    ensures { result ≡ field s.now (i * 8) 40 }
 {
     if i + 5 <= s.len() {
         five_inside(s, i)
@@ -61,9 +61,9 @@ fn five(s: &[u8], i: usize) -> u64
 
 // The field of `width` bits from bit `at` on. It lies in five bytes, which are read whole.
 pub fn get(s: &[u8], at: usize, width: usize) -> u64
-    requires { ⌜ (at + width ≤ length (now s) * 8) × (width ≤ 32) × (at < 2 ^ 32) ⌝ }
-    ensures { λ r. ⌜ r ≡ field (now (s .entry)) at width ⌝ }
-    ensures { λ r. ⌜ r < 2 ^ width ⌝ }
+    requires { (at + width ≤ length s.now * 8) × (width ≤ 32) × (at < 2 ^ 32) }
+    ensures value { result ≡ field s.now at width }
+    ensures upper_bound { result < 2 ^ width }
 {
     let below = 40 - (at % 8 + width);
     (five(s, at / 8) >> below) % weight(width)
@@ -71,8 +71,8 @@ pub fn get(s: &[u8], at: usize, width: usize) -> u64
 
 // The byte x with the low w bits of v for its w bits from the one of weight 2 to the k up.
 fn with_bits(x: u8, k: usize, w: usize, v: u64) -> u8
-    requires { ⌜ k + w ≤ 8 ⌝ }
-    ensures { λ r. ⌜ r ≡ withBits x k w v ⌝ }
+    requires { k + w ≤ 8 }
+    ensures { result ≡ with_bits x k w v }
 {
     let y = x as u64;
     let a = weight(k);
@@ -82,8 +82,8 @@ fn with_bits(x: u8, k: usize, w: usize, v: u64) -> u8
 
 // A field that lies in one byte.
 fn put_part(s: &mut [u8], at: usize, width: usize, value: u64)
-    requires { ⌜ (at % 8 + width ≤ 8) × (at / 8 < length (now s)) ⌝ }
-    ensures { λ _. ⌜ now (s .exit) ≡ putField (now (s .entry)) at width value ⌝ }
+    requires { (at % 8 + width ≤ 8) × (at / 8 < length s.old) }
+    ensures { s.new ≡ put_field s.old at width value }
 {
     let j = at / 8;
     s[j] = with_bits(s[j], 8 - (at % 8 + width), width, value);
@@ -91,8 +91,8 @@ fn put_part(s: &mut [u8], at: usize, width: usize, value: u64)
 
 // How many of the `left` bits from bit `at` on lie in the last byte that they reach.
 fn last_part(at: usize, left: usize) -> usize
-    requires { ⌜ (0 < left) × (at + left < 2 ^ 32) ⌝ }
-    ensures { λ r. ⌜ (0 < r) × (r ≤ left) × ((at + (left - r)) % 8 + r ≤ 8) ⌝ }
+    requires { (0 < left) × (at + left < 2 ^ 32) }
+    ensures { (0 < result) × (result ≤ left) × ((at + (left - result)) % 8 + result ≤ 8) }
 {
     let n = (at + left - 1) % 8 + 1;
     if n < left { n } else { left }
@@ -100,8 +100,8 @@ fn last_part(at: usize, left: usize) -> usize
 
 // Puts the low `width` bits of `value` from bit `at` on: a byte at a time, the last first.
 pub fn put(s: &mut [u8], at: usize, width: usize, value: u64)
-    requires { ⌜ (at + width ≤ length (now s) * 8) × (at + width < 2 ^ 32) ⌝ }
-    ensures { λ _. ⌜ now (s .exit) ≡ putField (now (s .entry)) at width value ⌝ }
+    requires { (at + width ≤ length s.old * 8) × (at + width < 2 ^ 32) }
+    ensures { s.new ≡ put_field s.old at width value }
 {
     let mut left = width;
     let mut v = value;
@@ -115,9 +115,9 @@ pub fn put(s: &mut [u8], at: usize, width: usize, value: u64)
 
 // Puts the values, each at its width, one after the other from bit `at` on.
 pub fn put_all(s: &mut [u8], at: usize, widths: &[usize], values: &[u64])
-    requires { ⌜ (at + total (now widths) ≤ length (now s) * 8) × (at + total (now widths) < 2 ^ 32) ⌝ }
-    requires { ⌜ length (now widths) ≡ length (now values) ⌝ }
-    ensures { λ _. ⌜ now (s .exit) ≡ putFields (now (s .entry)) at (now (widths .entry)) (now (values .entry)) ⌝ }
+    requires widths_in_bounds { (at + total widths.now ≤ length s.old * 8) × (at + total widths.now < 2 ^ 32) }
+    requires widths_len { length widths.now ≡ length values.now }
+    ensures { s.new ≡ put_fields s.old at widths.now values.now }
 {
     let mut p = at;
     let mut i: usize = 0;

@@ -1,32 +1,32 @@
 -- Of a table that the call of tolerances answers, each task whose threshold is its own priority is cut by every task above it.
-use Prim.Native.Nat.{ℕ, _<_}
-use mathlib.Core.Path.{_≡_}
+use Prim.Native.Nat.{ℕ, ◌<◌}
+use mathlib.Core.Path.{◌≡◌}
 use borrow.Author.Tests.{leb-true}
-use Rattle·paper.specs.Numbers.{assigned}
-use Rattle·paper.specs.Analysis.{tasksOf}
-use Rattle·paper.specs.Refusals.{firstOf, tolerancesAsks}
-use Rattle·paper.specs.declared.Table.{Table}
-use Rattle·paper.specs.declared.Outcome.the-variants.{Done}
-use Rattle·paper.proofs.Tests.{every-says}
-use Rattle·paper.proofs.Formed.{each-once-apart}
-use Rattle·columns.proofs.Tables.{well-formed}
-use Rattle·outcomes.proofs.Meaning.{tolerances-done, times-ranged}
-use Rattle·blocked·proofs.proofs.Tolerated.{Cut}
+use Rattle.paper.specs.Numbers.{assigned}
+use Rattle.paper.specs.Analysis.{tasks_of}
+use Rattle.paper.specs.Refusals.{first_of, tolerances_asks}
+use Rattle.paper.specs.declared.Table.{Table}
+use Rattle.paper.specs.declared.Outcome.TheVariants.{Done}
+use Rattle.paper.proofs.Tests.{every_says}
+use Rattle.paper.proofs.Formed.{each_once_apart}
+use Rattle.columns.proofs.Tables.{well_formed}
+use Rattle.outcomes.proofs.Meaning.{tolerances_done, times_ranged}
+use Rattle.blocked.proofs.Tolerated.{Cut}
 
-pub answered-cut : (t : Table) → firstOf (tolerancesAsks t) ≡ Done → (i : ℕ) → i < t .n → assigned (t .records) .h i ≡ assigned (t .records) .p i
-    → Cut (tasksOf (t .records) (t .n)) (assigned (t .records)) i
-answered-cut t e i l cut =
-    let f = tolerances-done t e in
-    let times = f .shared .times in
-    let r = times-ranged t times in
-    let once = well-formed (t .records) (t .n) (times .assignment) (times .assigned) .0 in
+pub answered_cut : (t : Table) → first_of (tolerances_asks t) ≡ Done → (i : ℕ) → i < t.n → (assigned t.records).h i ≡ (assigned t.records).p i
+    → Cut (tasks_of t.records t.n) (assigned t.records) i
+answered_cut t e i l cut =
+    let f = tolerances_done t e in
+    let times = f.shared.times in
+    let r = times_ranged t times in
+    let once = (well_formed t.records t.n times.assignment times.assigned).0 in
     record {
       among = l;
-      periods = λ j h. r .periods j h .0;
-      cost = r .costs i l .0;
-      instant = f .instants i l;
-      due = leb-true _ _ (every-says (t .n) _ (f .shared .deadlines) i l);
-      near = r .deadlines i l .1;
-      alone = λ j h q. each-once-apart (t .n) _ once j i h l q;
+      periods = λ j h. (r.periods j h).0;
+      cost = (r.costs i l).0;
+      instant = f.instants i l;
+      due = leb-true _ _ (every_says t.n _ f.shared.deadlines i l);
+      near = (r.deadlines i l).1;
+      alone = λ j h q. each_once_apart t.n _ once j i h l q;
       cut = cut;
     }

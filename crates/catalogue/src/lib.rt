@@ -1,9 +1,12 @@
 // A catalogue as a person writes it: region lengths in decimal, one to a line or with blanks between them.
-ghost use Rattle·fronts.specs.Front.{Front};
+#![tactic(auto)]
+
+ghost use Rattle.fronts.specs.Front.{Front};
 
 // The most words that the records of a file can name: first and count are at most 127.
 pub const MOST_NAMED: usize = 254;
 
+#[derive(Clone, Copy)]
 pub struct Catalogue {
     // So many words stand at the front of the list.
     pub words: usize,
@@ -13,6 +16,7 @@ pub struct Catalogue {
     pub wrong: usize,
 }
 
+#[derive(Clone, Copy)]
 struct Scan {
     words: usize,
     line: usize,
@@ -111,7 +115,7 @@ fn step(s: Scan, b: u8, list: &mut [u32]) -> Scan {
 
 // The numbers of a text, put at the front of a lent list as far as that reaches.
 pub fn read_words(text: &[u8], list: &mut [u32]) -> Catalogue
-    ensures { λ r. ⌜ Front (r .words) (now (list .exit)) ⌝ }
+    ensures { Front result.words list.new }
 {
     let mut s = Scan {
         words: 0,

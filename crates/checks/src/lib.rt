@@ -1,46 +1,46 @@
 // The conditions that the refusals 5, 9, 10, 14, 15, 18 and 19 ask, shared by the calls.
-ghost use mathlib.Core.Path.{_≡_};
-ghost use mathlib.Core.Bool.{not};
-ghost use Prim.Native.Nat.{_≤_};
-ghost use lib.Dec.{leb, eqb};
-ghost use lib.ListN.{getD};
-ghost use Rattle·paper.specs.Vocabulary.{every};
-ghost use Rattle·paper.specs.Numbers.{mostTasks, rec, tasksInRange, countsInRange, ticksInRange, recordInRange, recordsInRange, eachOnce, thresholdsHold, unassigned, assignmentHolds};
-ghost use Rattle·paper.specs.Refusals.{blank};
-ghost use Rattle·columns.specs.Columns.{assignedBy};
-ghost use Rattle·checks·specs.specs.Tests.{passesTest};
+
+#![tactic(auto)]
+
+ghost use Rattle.std.specs.Prelude.{◌≡◌, not, ◌≤◌, leb, eqb, get_or};
+ghost use Rattle.paper.specs.Vocabulary.{every};
+ghost use Rattle.paper.specs.Numbers.{most_tasks, rec, tasks_in_range, counts_in_range, ticks_in_range, record_in_range, records_in_range, each_once, thresholds_hold, unassigned, assignment_holds};
+ghost use Rattle.paper.specs.Refusals.{blank};
+ghost use Rattle.columns.specs.Columns.{assigned_by};
+ghost use Rattle.checks.specs.Tests.{passes_test};
+
 use columns::Column;
 use paper::Record;
 
 // 5: the counts.
 pub fn tasks_in_range(n: usize) -> bool
-    ensures { λ b. ⌜ b ≡ tasksInRange n ⌝ }
+    ensures { result ≡ tasks_in_range n }
 {
     (1 <= n) & (n <= paper::MOST_TASKS)
 }
 
 pub fn counts_in_range(n: usize, m: usize) -> bool
-    ensures { λ b. ⌜ b ≡ countsInRange n m ⌝ }
+    ensures { result ≡ counts_in_range n m }
 {
     tasks_in_range(n) & (m <= paper::MOST_WORDS)
 }
 
 // 18: cabinet 0 or line 0, of a file or of a plate.
 pub fn is_blank(cabinet: u64, line: u64) -> bool
-    ensures { λ b. ⌜ b ≡ blank cabinet line ⌝ }
+    ensures { result ≡ blank cabinet line }
 {
     (cabinet == 0) | (line == 0)
 }
 
 // 9: the ranges.
 pub fn ticks_in_range(x: u32) -> bool
-    ensures { λ b. ⌜ b ≡ ticksInRange x ⌝ }
+    ensures { result ≡ ticks_in_range x }
 {
     (1 <= x) & (x <= paper::MOST_TICKS)
 }
 
 fn record_in_range(r: Record) -> bool
-    ensures { λ b. ⌜ b ≡ recordInRange r ⌝ }
+    ensures { result ≡ record_in_range r }
 {
     let named = r.name <= paper::MOST_NAME;
     let in_time = r.jitter < r.period;
@@ -49,6 +49,7 @@ fn record_in_range(r: Record) -> bool
 }
 
 // What is asked of each record.
+#[derive(Clone, Copy)]
 enum Test {
     InRange,
     Unassigned,
@@ -57,7 +58,7 @@ enum Test {
 }
 
 fn passes(test: Test, r: Record) -> bool
-    ensures { λ b. ⌜ b ≡ passesTest test r ⌝ }
+    ensures { result ≡ passes_test test r }
 {
     match test {
         Test::InRange => record_in_range(r),
@@ -68,8 +69,8 @@ fn passes(test: Test, r: Record) -> bool
 }
 
 fn all_pass(rs: [Record; paper::MOST_TASKS], n: usize, test: Test) -> bool
-    requires { ⌜ n ≤ mostTasks ⌝ }
-    ensures { λ b. ⌜ b ≡ every n (λ k. passesTest test (rec rs k)) ⌝ }
+    requires { n ≤ most_tasks }
+    ensures { result ≡ every n (λ k. passes_test test (rec rs k)) }
 {
     let mut ok = true;
     let mut k: usize = 0;
@@ -81,40 +82,40 @@ fn all_pass(rs: [Record; paper::MOST_TASKS], n: usize, test: Test) -> bool
 }
 
 pub fn records_in_range(rs: [Record; paper::MOST_TASKS], n: usize) -> bool
-    requires { ⌜ n ≤ mostTasks ⌝ }
-    ensures { λ b. ⌜ b ≡ recordsInRange rs n ⌝ }
+    requires { n ≤ most_tasks }
+    ensures { result ≡ records_in_range rs n }
 {
     all_pass(rs, n, Test::InRange)
 }
 
 // 14: no task has a priority or a threshold.
 pub fn unassigned(rs: [Record; paper::MOST_TASKS], n: usize) -> bool
-    requires { ⌜ n ≤ mostTasks ⌝ }
-    ensures { λ b. ⌜ b ≡ unassigned rs n ⌝ }
+    requires { n ≤ most_tasks }
+    ensures { result ≡ unassigned rs n }
 {
     all_pass(rs, n, Test::Unassigned)
 }
 
 // 15: no deadline above its period.
 pub fn deadlines_hold(rs: [Record; paper::MOST_TASKS], n: usize) -> bool
-    requires { ⌜ n ≤ mostTasks ⌝ }
-    ensures { λ b. ⌜ b ≡ every n (λ k. leb (rec rs k .deadline) (rec rs k .period)) ⌝ }
+    requires { n ≤ most_tasks }
+    ensures { result ≡ every n (λ k. leb (rec rs k).deadline (rec rs k).period) }
 {
     all_pass(rs, n, Test::DeadlineHolds)
 }
 
 // 19: no task has a jitter, for which a file of edition 1 has no place.
 pub fn unjittered(rs: [Record; paper::MOST_TASKS], n: usize) -> bool
-    requires { ⌜ n ≤ mostTasks ⌝ }
-    ensures { λ b. ⌜ b ≡ every n (λ k. eqb (rec rs k .jitter) 0) ⌝ }
+    requires { n ≤ most_tasks }
+    ensures { result ≡ every n (λ k. eqb (rec rs k).jitter 0) }
 {
     all_pass(rs, n, Test::Unjittered)
 }
 
 // 10: the assignment. Whether x is none of the first k numbers.
 fn none_of(xs: &[u64; paper::MOST_TASKS], k: usize, x: u64) -> bool
-    requires { ⌜ k ≤ mostTasks ⌝ }
-    ensures { λ b. ⌜ b ≡ every k (λ j. not (eqb (getD (now (xs .entry)) j 0) x)) ⌝ }
+    requires { k ≤ most_tasks }
+    ensures { result ≡ every k (λ j. not (eqb (get_or xs.now j 0) x)) }
 {
     let mut ok = true;
     let mut j: usize = 0;
@@ -127,8 +128,8 @@ fn none_of(xs: &[u64; paper::MOST_TASKS], k: usize, x: u64) -> bool
 
 // The first n numbers are 1 to n, each once.
 pub fn each_once(xs: &[u64; paper::MOST_TASKS], n: usize) -> bool
-    requires { ⌜ n ≤ mostTasks ⌝ }
-    ensures { λ b. ⌜ b ≡ eachOnce n (λ k. getD (now (xs .entry)) k 0) ⌝ }
+    requires { n ≤ most_tasks }
+    ensures { result ≡ each_once n (λ k. get_or xs.now k 0) }
 {
     let most = n as u64;
     let mut inside = true;
@@ -149,8 +150,8 @@ pub fn thresholds_hold(
     hs: &[u64; paper::MOST_TASKS],
     n: usize,
 ) -> bool
-    requires { ⌜ n ≤ mostTasks ⌝ }
-    ensures { λ b. ⌜ b ≡ thresholdsHold n (assignedBy (now (ps .entry)) (now (hs .entry))) ⌝ }
+    requires { n ≤ most_tasks }
+    ensures { result ≡ thresholds_hold n (assigned_by ps.now hs.now) }
 {
     let mut ok = true;
     let mut k: usize = 0;
@@ -163,8 +164,8 @@ pub fn thresholds_hold(
 }
 
 pub fn assignment_holds(rs: [Record; paper::MOST_TASKS], n: usize) -> bool
-    requires { ⌜ n ≤ mostTasks ⌝ }
-    ensures { λ b. ⌜ b ≡ assignmentHolds rs n ⌝ }
+    requires { n ≤ most_tasks }
+    ensures { result ≡ assignment_holds rs n }
 {
     let ps = columns::column_of(rs, Column::Priority);
     let hs = columns::column_of(rs, Column::Threshold);

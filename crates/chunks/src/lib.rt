@@ -1,16 +1,17 @@
 // What the test of fixed preemption points looks at of a task's regions: the longest and the last.
-ghost use mathlib.Core.Path.{_≡_};
-ghost use Prim.Native.Nat.{_+_, _<_, _^_};
-ghost use lib.ListN.{getD};
-ghost use Rattle·paper.specs.Vocabulary.{maxTo};
-ghost use Rattle·paper.specs.Points.{longestRegion, lastRegion};
-use paper::Record;
-use paper::Source;
+
+#![tactic(auto)]
+
+ghost use Rattle.std.specs.Prelude.{◌≡◌, ◌+◌, ◌<◌, ◌^◌, get_or};
+ghost use Rattle.paper.specs.Vocabulary.{max_to};
+ghost use Rattle.paper.specs.Points.{longest_region, last_region};
+
+use paper::{Record, Source};
 
 // The longest of `count` words from `first`.
 fn longest(list: &[u32], first: usize, count: usize) -> u64
-    requires { ⌜ first + count < 2 ^ 33 ⌝ }
-    ensures { λ r. ⌜ r ≡ maxTo count (λ i. getD (now (list .entry)) (first + i) 0) ⌝ }
+    requires { first + count < 2 ^ 33 }
+    ensures { result ≡ max_to count (λ i. get_or list.now (first + i) 0) }
 {
     let mut most: u64 = 0;
     let mut i: usize = 0;
@@ -22,7 +23,7 @@ fn longest(list: &[u32], first: usize, count: usize) -> u64
 }
 
 pub fn longest_region(r: Record, own: &[u32], catalogue: &[u32]) -> u64
-    ensures { λ x. ⌜ x ≡ longestRegion (now (own .entry)) (now (catalogue .entry)) r ⌝ }
+    ensures { result ≡ longest_region own.now catalogue.now r }
 {
     let source = r.source;
     let first = r.first as usize;
@@ -34,7 +35,7 @@ pub fn longest_region(r: Record, own: &[u32], catalogue: &[u32]) -> u64
 }
 
 pub fn last_region(r: Record, own: &[u32], catalogue: &[u32]) -> u64
-    ensures { λ x. ⌜ x ≡ lastRegion (now (own .entry)) (now (catalogue .entry)) r ⌝ }
+    ensures { result ≡ last_region own.now catalogue.now r }
 {
     let source = r.source;
     let count = r.count as u64;

@@ -1,12 +1,14 @@
 // A table's numbers as columns, which is what the analysis runs on.
-ghost use mathlib.Core.Path.{_≡_};
-ghost use Prim.Native.Nat.{_+_, _*_, _<_};
-ghost use lib.ListN.{length};
-ghost use Rattle·paper.specs.Numbers.{mostTasks};
-ghost use Rattle·columns·specs.specs.Columns.{valueIn, taskColumns, columnAt, columnOf, columnsOf, filledTo, numberAt};
-use paper::MOST_TASKS;
-use paper::Record;
 
+#![tactic(auto)]
+
+ghost use Rattle.std.specs.Prelude.{◌≡◌, ◌+◌, ◌*◌, ◌<◌, length};
+ghost use Rattle.paper.specs.Numbers.{most_tasks};
+ghost use Rattle.columns.specs.Columns.{value_in, task_columns, column_at, column_of, columns_of, filled_to, number_at};
+
+use paper::{MOST_TASKS, Record};
+
+#[derive(Clone, Copy)]
 pub enum Column {
     Cost,
     Period,
@@ -28,36 +30,40 @@ pub type Tasks = [u64; TASK_NUMBERS];
 pub type Numbers = [u64; MOST_TASKS];
 
 // C(k), T(k), D(k) and J(k).
+#[tactic(auto, unfolding(crate::specs::Columns::number_at))]
 pub fn cost(y: &Tasks, k: usize) -> u64
-    requires { ⌜ k < mostTasks ⌝ }
-    ensures { λ r. ⌜ r ≡ numberAt 0 (now (y .entry)) k ⌝ }
+    requires { k < most_tasks }
+    ensures { result ≡ number_at 0 y.now k }
 {
     y[k]
 }
 
+#[tactic(auto, unfolding(crate::specs::Columns::number_at))]
 pub fn period(y: &Tasks, k: usize) -> u64
-    requires { ⌜ k < mostTasks ⌝ }
-    ensures { λ r. ⌜ r ≡ numberAt 1 (now (y .entry)) k ⌝ }
+    requires { k < most_tasks }
+    ensures { result ≡ number_at 1 y.now k }
 {
     y[MOST_TASKS + k]
 }
 
+#[tactic(auto, unfolding(crate::specs::Columns::number_at))]
 pub fn deadline(y: &Tasks, k: usize) -> u64
-    requires { ⌜ k < mostTasks ⌝ }
-    ensures { λ r. ⌜ r ≡ numberAt 2 (now (y .entry)) k ⌝ }
+    requires { k < most_tasks }
+    ensures { result ≡ number_at 2 y.now k }
 {
     y[2 * MOST_TASKS + k]
 }
 
+#[tactic(auto, unfolding(crate::specs::Columns::number_at))]
 pub fn jitter(y: &Tasks, k: usize) -> u64
-    requires { ⌜ k < mostTasks ⌝ }
-    ensures { λ r. ⌜ r ≡ numberAt 3 (now (y .entry)) k ⌝ }
+    requires { k < most_tasks }
+    ensures { result ≡ number_at 3 y.now k }
 {
     y[3 * MOST_TASKS + k]
 }
 
 fn value_in(which: Column, r: Record) -> u64
-    ensures { λ x. ⌜ x ≡ valueIn which r ⌝ }
+    ensures { result ≡ value_in which r }
 {
     match which {
         Column::Cost => r.cost as u64,
@@ -71,8 +77,8 @@ fn value_in(which: Column, r: Record) -> u64
 
 // Of all records, those past n too. The second promise lets a caller go from columns to records at every index.
 pub fn column_of(rs: [Record; MOST_TASKS], which: Column) -> Numbers
-    ensures { λ xs. ⌜ xs ≡ columnOf rs which ⌝ }
-    ensures { λ _. ⌜ length rs ≡ mostTasks ⌝ }
+    ensures value { result ≡ column_of rs which }
+    ensures rs_len { length rs ≡ most_tasks }
 {
     let mut xs = [0u64; MOST_TASKS];
     let mut k: usize = 0;
@@ -86,8 +92,8 @@ pub fn column_of(rs: [Record; MOST_TASKS], which: Column) -> Numbers
 // Column m of the tasks, behind those before it. A loop for each column is quicker than one over all, which would ask at every
 // number which column it is in.
 fn put_column(ys: &mut Tasks, m: usize, rs: [Record; MOST_TASKS], which: Column)
-    requires { ⌜ (m < taskColumns) × (which ≡ columnAt m) × (now ys ≡ filledTo rs (m * mostTasks)) ⌝ }
-    ensures { λ _. ⌜ now (ys .exit) ≡ filledTo rs ((m + 1) * mostTasks) ⌝ }
+    requires { (m < task_columns) × (which ≡ column_at m) × (ys.old ≡ filled_to rs (m * most_tasks)) }
+    ensures { ys.new ≡ filled_to rs ((m + 1) * most_tasks) }
 {
     let mut j: usize = 0;
     while j < MOST_TASKS {
@@ -98,8 +104,8 @@ fn put_column(ys: &mut Tasks, m: usize, rs: [Record; MOST_TASKS], which: Column)
 
 // The tasks' columns, likewise.
 pub fn columns_of(rs: [Record; MOST_TASKS]) -> Tasks
-    ensures { λ ys. ⌜ ys ≡ columnsOf rs ⌝ }
-    ensures { λ _. ⌜ length rs ≡ mostTasks ⌝ }
+    ensures value { result ≡ columns_of rs }
+    ensures rs_len { length rs ≡ most_tasks }
 {
     let mut ys = [0u64; TASK_NUMBERS];
     put_column(&mut ys, 0, rs, Column::Cost);

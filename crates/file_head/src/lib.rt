@@ -1,15 +1,15 @@
 // The first stage of reading: what is asked of the head, the plate and the length. Only what passes is unpacked (reader).
-ghost use mathlib.Core.Path.{_≡_};
-ghost use Rattle·paper.specs.Refusals.{firstOf};
-ghost use Rattle·file_head·specs.specs.Asks.{headAsks};
-use paper::Cabinet;
-use paper::Line;
-use paper::Outcome;
-use paper::Refusal;
+#![tactic(auto)]
+
+ghost use Rattle.std.specs.Prelude.{◌≡◌};
+ghost use Rattle.paper.specs.Refusals.{first_of};
+ghost use Rattle.file_head.specs.Asks.{head_asks};
+
+use paper::{Cabinet, Line, Outcome, Refusal};
 
 // Asks 1, 2, 18, 3 to 6.
 pub fn head(file: &[u8], cabinet: Cabinet, line: Line) -> Outcome
-    ensures { λ x. ⌜ x ≡ firstOf (headAsks (now (file .entry)) (cabinet .0) (line .0)) ⌝ }
+    ensures { result ≡ first_of (head_asks file.now cabinet.0 line.0) }
 {
     if file.len() < layout::SHORTEST {
         return Outcome::Refused(Refusal::Short);

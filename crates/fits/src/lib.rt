@@ -1,28 +1,27 @@
 // Whether regions fit lengths.
-ghost use mathlib.Core.Path.{_≡_};
-ghost use Prim.Native.Nat.{_+_, _≤_, _<_, _^_};
-ghost use lib.IntN.{pos};
-ghost use lib.ListN.{getD};
-ghost use lib.Signed.{leZ};
-ghost use Rattle·paper.specs.Vocabulary.{every};
-ghost use Rattle·paper.specs.Numbers.{mostTasks, rec};
-ghost use Rattle·paper.specs.Regions.{listOf};
-ghost use Rattle·paper.specs.Lengths.{regionsFit};
-use paper::MOST_TASKS;
-use paper::Record;
-use paper::Source;
+
+#![tactic(auto)]
+
+ghost use Rattle.std.specs.Prelude.{◌≡◌, ◌+◌, ◌≤◌, ◌<◌, ◌^◌, pos, get_or};
+ghost use Rattle.std.specs.Int.Signed.{le_z};
+ghost use Rattle.paper.specs.Vocabulary.{every};
+ghost use Rattle.paper.specs.Numbers.{most_tasks, rec};
+ghost use Rattle.paper.specs.Regions.{list_of};
+ghost use Rattle.paper.specs.Lengths.{regions_fit};
+
+use paper::{MOST_TASKS, Record, Source};
 use tolerance::Ticks;
 
 // A region of `word` ticks is at most the length q.
 fn region_fits(word: u32, q: i64) -> bool
-    ensures { λ b. ⌜ b ≡ leZ (pos word) q ⌝ }
+    ensures { result ≡ le_z (pos word) q }
 {
     word as i64 <= q
 }
 
 fn regions_fit(list: &[u32], first: usize, count: usize, q: i64) -> bool
-    requires { ⌜ first + count < 2 ^ 33 ⌝ }
-    ensures { λ b. ⌜ b ≡ every count (λ i. leZ (pos (getD (now (list .entry)) (first + i) 0)) q) ⌝ }
+    requires { first + count < 2 ^ 33 }
+    ensures { result ≡ every count (λ i. le_z (pos (get_or list.now (first + i) 0)) q) }
 {
     let mut ok = true;
     let mut i: usize = 0;
@@ -34,7 +33,7 @@ fn regions_fit(list: &[u32], first: usize, count: usize, q: i64) -> bool
 }
 
 pub fn record_fits(r: Record, own: &[u32], catalogue: &[u32], q: i64) -> bool
-    ensures { λ b. ⌜ b ≡ regionsFit (listOf (r .source) (now (own .entry)) (now (catalogue .entry))) r q ⌝ }
+    ensures { result ≡ regions_fit (list_of r.source own.now catalogue.now) r q }
 {
     let source = r.source;
     let first = r.first as usize;
@@ -52,8 +51,8 @@ pub fn all_fit(
     own: &[u32],
     catalogue: &[u32],
 ) -> bool
-    requires { ⌜ n ≤ mostTasks ⌝ }
-    ensures { λ b. ⌜ b ≡ every n (λ k. regionsFit (listOf (rec rs k .source) (now (own .entry)) (now (catalogue .entry))) (rec rs k) (getD (now (lengths .entry)) k (pos 0))) ⌝ }
+    requires { n ≤ most_tasks }
+    ensures { result ≡ every n (λ k. regions_fit (list_of (rec rs k).source own.now catalogue.now) (rec rs k) (get_or lengths.now k (pos 0))) }
 {
     let mut ok = true;
     let mut k: usize = 0;

@@ -1,44 +1,44 @@
 -- Laws of blocking.
-use Prim.Native.Nat.{ℕ, _<_}
-use mathlib.Core.Path.{_≡_, refl}
-use mathlib.Core.Bool.{_&&_, cond}
+use Prim.Native.Nat.{ℕ, ◌<◌}
+use mathlib.Core.Path.{◌≡◌, refl}
+use mathlib.Core.Bool.{◌&&◌, cond}
 use native.Mathlib.Omega.{arith}
 use lib.Dec.{leb, ltb}
-use Rattle·paper.specs.Vocabulary.{maxTo}
-use Rattle·paper.specs.Numbers.{mostTicks, Assignment}
-use Rattle·paper.specs.Analysis.{Tasks, blocks, blocking, standing}
-use Rattle·laws.proofs.Sums.{max-bound, part-bound}
-use Rattle·columns.specs.Columns.{Ranged, Placed}
-use Rattle·jobs·specs.specs.Stands.{standBy, standOf, Stands}
-use Rattle·jobs·specs.specs.declared.Stand.{Stand}
+use Rattle.paper.specs.Vocabulary.{max_to}
+use Rattle.paper.specs.Numbers.{most_ticks, Assignment}
+use Rattle.paper.specs.Analysis.{Tasks, blocks, blocking, standing}
+use Rattle.laws.proofs.Sums.{max_bound, part_bound}
+use Rattle.columns.specs.Columns.{Ranged, Placed}
+use Rattle.jobs.specs.Stands.{stand_by, stand_of, Stands}
+use Rattle.jobs.specs.declared.Stand.{Stand}
 
 -- what task j adds to the blocking of a task of priority `own`
-abbrev pub blockOf : Tasks → Assignment → ℕ → ℕ → ℕ
-blockOf y a own j = cond (leb (a .h j) own && ltb own (a .p j)) (y .c j) 0
+abbrev pub block_of : Tasks → Assignment → ℕ → ℕ → ℕ
+block_of y a own j = cond (leb (a.h j) own && ltb own (a.p j)) (y.c j) 0
 
 module _ (y : Tasks) (a : Assignment) where
   -- by its own cost
-  pub block-is : (own j : ℕ) {c r : ℕ} → c ≡ y .c j → r ≡ cond (leb (a .h j) own && ltb own (a .p j)) c 0 → r ≡ blockOf y a own j
-  block-is own j ec e = rw (← ec) e
+  pub block_is : (own j : ℕ) {c r : ℕ} → c ≡ y.c j → r ≡ cond (leb (a.h j) own && ltb own (a.p j)) c 0 → r ≡ block_of y a own j
+  block_is own j ec e = rw (← ec) e
 
   module _ (i : ℕ) where
-    pub blocking-is : blocking y a i ≡ maxTo (y .n) (blockOf y a (a .p i))
+    pub blocking_is : blocking y a i ≡ max_to y.n (block_of y a (a.p i))
     unfolding blocking blocks
-    blocking-is = refl
+    blocking_is = refl
 
     -- where task i stands, by the priorities alone: the others' thresholds play no part
-    module _ (h : ℕ → ℕ) (s : Stand) (e : s ≡ standOf y a i) where
-      pub stand-is : standing y a i ≡ standBy (record { p = a .p; h = h }) s
+    module _ (h : ℕ → ℕ) (s : Stand) (e : s ≡ stand_of y a i) where
+      pub stand_is : standing y a i ≡ stand_by (record { p = a.p; h = h }) s
       unfolding standing
-      stand-is = rw e
+      stand_is = rw e
 
-      pub stands : Ranged y → Placed (y .n) a → i < y .n → Stands y (record { p = a .p; h = h }) s
+      pub stands : Ranged y → Placed y.n a → i < y.n → Stands y (record { p = a.p; h = h }) s
       unfolding blocking
       stands r q l =
           rw e
           (record {
             among = l;
-            blocked = omega (arith, max-bound (y .n) mostTicks _ (λ j m. part-bound (blocks a i j) (r .costs j m .1)));
+            blocked = omega (arith, max_bound y.n most_ticks _ (λ j m. part_bound (blocks a i j) (r.costs j m).1));
             place = refl;
-            small = q .priorities i l .1;
+            small = (q.priorities i l).1;
           })

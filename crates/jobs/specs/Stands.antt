@@ -1,34 +1,32 @@
 -- Where a task stands, and when its jobs run.
-use Prim.Native.Nat.{ℕ, _-_, _≤_, _<_}
-use mathlib.Core.Path.{_≡_}
-use lib.Dec.{leb, ltb}
-use Rattle·paper.specs.Numbers.{mostTasks, mostTicks, Assignment}
-use Rattle·paper.specs.Analysis.{Tasks, Standing, before, blocking, levelOf, startOf, finishOf}
-use Rattle·paper.specs.declared.Time.{Time}
-use Rattle·paper.specs.declared.Time.the-variants.{At, Beyond}
-use Rattle·jobs·specs.specs.declared.Stand.{Stand}
-use Rattle·jobs·specs.specs.declared.Span.{Span}
-use Rattle·jobs·specs.specs.declared.Span.the-variants.{Ends}
+use Rattle.std.specs.Prelude.{ℕ, ◌-◌, ◌≤◌, ◌<◌, ◌≡◌, leb, ltb}
+use Rattle.paper.specs.Numbers.{most_tasks, most_ticks, Assignment}
+use Rattle.paper.specs.Analysis.{Tasks, Standing, before, blocking, level_of, start_of, finish_of}
+use Rattle.paper.specs.declared.Time.{Time}
+use Rattle.paper.specs.declared.Time.TheVariants.{At, Beyond}
+use Rattle.jobs.specs.declared.Stand.{Stand}
+use Rattle.jobs.specs.declared.Span.{Span}
+use Rattle.jobs.specs.declared.Span.TheVariants.{Ends}
 
 -- where a task stands, by its own numbers and the others' priorities
-abbrev pub standBy : Assignment → Stand → Standing
-standBy a s =
+abbrev pub stand_by : Assignment → Stand → Standing
+stand_by a s =
     record {
-      b = s .b;
-      level = λ j. leb (a .p j) (s .p);
-      above = λ j. ltb (a .p j) (s .p);
-      cuts = λ j. ltb (a .p j) (s .h);
+      b = s.b;
+      level = λ j. leb (a.p j) s.p;
+      above = λ j. ltb (a.p j) s.p;
+      cuts = λ j. ltb (a.p j) s.h;
     }
 
-abbrev pub standOf : Tasks → Assignment → ℕ → Stand
-standOf y a i = record { i = i; b = blocking y a i - 1; p = a .p i; h = a .h i }
+abbrev pub stand_of : Tasks → Assignment → ℕ → Stand
+stand_of y a i = record { i = i; b = blocking y a i - 1; p = a.p i; h = a.h i }
 
 -- a task of y stands so
 pub record Stands (y : Tasks) (a : Assignment) (s : Stand) : Type 0 where
-  pub among : s .i < y .n
-  pub blocked : s .b ≤ mostTicks
-  pub place : s .p ≡ a .p (s .i)
-  pub small : s .p ≤ mostTasks
+  pub among : s.i < y.n
+  pub blocked : s.b ≤ most_ticks
+  pub place : s.p ≡ a.p s.i
+  pub small : s.p ≤ most_tasks
 
 -- a place from which to climb to the least fixed point of f: none lies below it
 pub record Climbs (f : ℕ → ℕ) (from : ℕ) : Type 0 where
@@ -40,17 +38,17 @@ unfoldable pub finished : ℕ → Time → Span
 finished start (At f) = Ends start f
 finished start Beyond = Span.Beyond
 
-unfoldable pub spanFrom : Tasks → Standing → ℕ → Time → Span
-spanFrom y s i (At start) = finished start (finishOf y s i start)
-spanFrom y s i Beyond = Span.Beyond
+unfoldable pub span_from : Tasks → Standing → ℕ → Time → Span
+span_from y s i (At start) = finished start (finish_of y s i start)
+span_from y s i Beyond = Span.Beyond
 
-unfoldable pub spanOf : Tasks → Standing → ℕ → ℕ → Span
-spanOf y s i k = spanFrom y s i (startOf y s i k)
+unfoldable pub span_of : Tasks → Standing → ℕ → ℕ → Span
+span_of y s i k = span_from y s i (start_of y s i k)
 
 -- jobs k run from 0 to ceil((L + J(i))/T(i)) − 1: how many these are
-unfoldable pub countFrom : Tasks → ℕ → Time → Time
-countFrom y i (At l) = At (before y l i)
-countFrom y i Beyond = Beyond
+unfoldable pub count_from : Tasks → ℕ → Time → Time
+count_from y i (At l) = At (before y l i)
+count_from y i Beyond = Beyond
 
-unfoldable pub jobCount : Tasks → Standing → ℕ → Time
-jobCount y s i = countFrom y i (levelOf y s)
+unfoldable pub job_count : Tasks → Standing → ℕ → Time
+job_count y s i = count_from y i (level_of y s)

@@ -1,18 +1,19 @@
 // When the jobs of a task run: its active period, and the start and finish of each job in it.
+
+#![tactic(auto)]
+
+ghost use Rattle.std.specs.Prelude.{◌≡◌, cond, ◌&&◌, ◌-◌, ◌<◌, ◌≤◌, max, leb, ltb};
+ghost use Rattle.paper.specs.Numbers.{most_tasks, horizon};
+ghost use Rattle.paper.specs.Analysis.{blocking, level_of, start_sum, start_of, finish_of};
+ghost use Rattle.columns.specs.Columns.{tasks_by, assigned_by, ranked_by, Ranged};
+ghost use Rattle.jobs.specs.Stands.{stand_by, stand_of, Stands, Climbs, span_of, job_count};
+
 use climb::Equation;
-use columns::Numbers;
-use columns::Tasks;
+use columns::{Numbers, Tasks};
 use paper::Time;
-ghost use mathlib.Core.Path.{_≡_};
-ghost use mathlib.Core.Bool.{cond, _&&_};
-ghost use Prim.Native.Nat.{_-_, _<_, _≤_, max};
-ghost use lib.Dec.{leb, ltb};
-ghost use Rattle·paper.specs.Numbers.{mostTasks, horizon};
-ghost use Rattle·paper.specs.Analysis.{blocking, levelOf, startSum, startOf, finishOf};
-ghost use Rattle·columns.specs.Columns.{tasksBy, assignedBy, rankedBy, Ranged};
-ghost use Rattle·jobs·specs.specs.Stands.{standBy, standOf, Stands, Climbs, spanOf, jobCount};
 
 // Where a task stands: its number i, for how long, b, it is blocked, its priority and its threshold.
+#[derive(Clone, Copy)]
 pub struct Stand {
     pub i: usize,
     pub b: u64,
@@ -21,34 +22,35 @@ pub struct Stand {
 }
 
 // When a job runs: its start S and its finish F, or neither at or below the horizon.
+#[derive(Clone, Copy)]
 pub enum Span {
     Ends(u64, u64),
     Beyond,
 }
 
 pub fn larger(a: u64, b: u64) -> u64
-    ensures { λ r. ⌜ r ≡ max a b ⌝ }
+    ensures { result ≡ max a b }
 {
     if a < b { b } else { a }
 }
 
 // f less r, or 0.
 pub fn less(f: u64, r: u64) -> u64
-    ensures { λ v. ⌜ v ≡ f - r ⌝ }
+    ensures { result ≡ f - r }
 {
     if r < f { f - r } else { 0 }
 }
 
 // What one task adds to the blocking of a task of priority `own`.
 fn block_part(own: u64, c: u64, p: u64, h: u64) -> u64
-    ensures { λ r. ⌜ r ≡ cond (leb h own && ltb own p) c 0 ⌝ }
+    ensures { result ≡ cond (leb h own && ltb own p) c 0 }
 {
     if (h <= own) & (own < p) { c } else { 0 }
 }
 
 fn blocking(n: usize, y: &Tasks, p: &Numbers, h: &Numbers, i: usize) -> u64
-    requires { ⌜ (i < n) × (n ≤ mostTasks) ⌝ }
-    ensures { λ r. ⌜ r ≡ blocking (tasksBy n (now (y .entry))) (assignedBy (now (p .entry)) (now (h .entry))) i ⌝ }
+    requires { (i < n) × (n ≤ most_tasks) }
+    ensures { result ≡ blocking (tasks_by n y.now) (assigned_by p.now h.now) i }
 {
     let own = p[i];
     let mut most = 0;
@@ -61,8 +63,8 @@ fn blocking(n: usize, y: &Tasks, p: &Numbers, h: &Numbers, i: usize) -> u64
 }
 
 pub fn stand_of(n: usize, y: &Tasks, p: &Numbers, h: &Numbers, i: usize) -> Stand
-    requires { ⌜ (i < n) × (n ≤ mostTasks) ⌝ }
-    ensures { λ r. ⌜ r ≡ standOf (tasksBy n (now (y .entry))) (assignedBy (now (p .entry)) (now (h .entry))) i ⌝ }
+    requires { (i < n) × (n ≤ most_tasks) }
+    ensures { result ≡ stand_of (tasks_by n y.now) (assigned_by p.now h.now) i }
 {
     // A blocker has run for a tick when the task arrives.
     let b = less(blocking(n, y, p, h, i), 1);
@@ -78,8 +80,8 @@ pub fn stand_of(n: usize, y: &Tasks, p: &Numbers, h: &Numbers, i: usize) -> Stan
 
 // L. The task counts itself, so that L is above 0.
 fn level(n: usize, y: &Tasks, p: &Numbers, s: Stand) -> Time
-    requires { ⌜ Ranged (tasksBy n (now y)) × Stands (tasksBy n (now y)) (rankedBy (now p)) s ⌝ }
-    ensures { λ r. ⌜ r ≡ levelOf (tasksBy n (now (y .entry))) (standBy (rankedBy (now (p .entry))) s) ⌝ }
+    requires { Ranged (tasks_by n y.now) × Stands (tasks_by n y.now) (ranked_by p.now) s }
+    ensures { result ≡ level_of (tasks_by n y.now) (stand_by (ranked_by p.now) s) }
 {
     let limit = s.p + 1;
     let e = Equation {
@@ -93,8 +95,8 @@ fn level(n: usize, y: &Tasks, p: &Numbers, s: Stand) -> Time
 
 // How many jobs the active period has: those that may have been asked for before L.
 pub fn job_count(n: usize, y: &Tasks, p: &Numbers, s: Stand) -> Time
-    requires { ⌜ Ranged (tasksBy n (now y)) × Stands (tasksBy n (now y)) (rankedBy (now p)) s ⌝ }
-    ensures { λ r. ⌜ r ≡ jobCount (tasksBy n (now (y .entry))) (standBy (rankedBy (now (p .entry))) s) (s .i) ⌝ }
+    requires { Ranged (tasks_by n y.now) × Stands (tasks_by n y.now) (ranked_by p.now) s }
+    ensures { result ≡ job_count (tasks_by n y.now) (stand_by (ranked_by p.now) s) s.i }
 {
     let l = level(n, y, p, s);
     let Time::At(v) = l else {
@@ -108,9 +110,9 @@ pub fn job_count(n: usize, y: &Tasks, p: &Numbers, s: Stand) -> Time
 
 // S of job k, which is known to be at least `from`. Jobs that are asked for at S itself go first: the edge.
 fn start(n: usize, y: &Tasks, p: &Numbers, s: Stand, k: u64, from: u64) -> Time
-    requires { ⌜ Ranged (tasksBy n (now y)) × Stands (tasksBy n (now y)) (rankedBy (now p)) s × (k ≤ horizon) ⌝ }
-    requires { ⌜ Climbs (startSum (tasksBy n (now y)) (standBy (rankedBy (now p)) s) (s .i) k) from ⌝ }
-    ensures { λ r. ⌜ r ≡ startOf (tasksBy n (now (y .entry))) (standBy (rankedBy (now (p .entry))) s) (s .i) k ⌝ }
+    requires ranged { Ranged (tasks_by n y.now) × Stands (tasks_by n y.now) (ranked_by p.now) s × (k ≤ horizon) }
+    requires climbs { Climbs (start_sum (tasks_by n y.now) (stand_by (ranked_by p.now) s) s.i k) from }
+    ensures { result ≡ start_of (tasks_by n y.now) (stand_by (ranked_by p.now) s) s.i k }
 {
     let own = columns::cost(y, s.i);
     let base = s.b + k * own;
@@ -125,8 +127,8 @@ fn start(n: usize, y: &Tasks, p: &Numbers, s: Stand, k: u64, from: u64) -> Time
 
 // F of a job that starts at `begun`. What was asked for by then, at `begun` too, had started: it is taken off.
 fn finish(n: usize, y: &Tasks, p: &Numbers, s: Stand, begun: u64) -> Time
-    requires { ⌜ Ranged (tasksBy n (now y)) × Stands (tasksBy n (now y)) (rankedBy (now p)) s × (begun ≤ horizon) ⌝ }
-    ensures { λ r. ⌜ r ≡ finishOf (tasksBy n (now (y .entry))) (standBy (rankedBy (now (p .entry))) s) (s .i) begun ⌝ }
+    requires { Ranged (tasks_by n y.now) × Stands (tasks_by n y.now) (ranked_by p.now) s × (begun ≤ horizon) }
+    ensures { result ≡ finish_of (tasks_by n y.now) (stand_by (ranked_by p.now) s) s.i begun }
 {
     let off = climb::work(n, y, p, s.h, begun + 1);
     let own = columns::cost(y, s.i);
@@ -141,9 +143,9 @@ fn finish(n: usize, y: &Tasks, p: &Numbers, s: Stand, begun: u64) -> Time
 }
 
 pub fn job(n: usize, y: &Tasks, p: &Numbers, s: Stand, k: u64, from: u64) -> Span
-    requires { ⌜ Ranged (tasksBy n (now y)) × Stands (tasksBy n (now y)) (rankedBy (now p)) s × (k ≤ horizon) ⌝ }
-    requires { ⌜ Climbs (startSum (tasksBy n (now y)) (standBy (rankedBy (now p)) s) (s .i) k) from ⌝ }
-    ensures { λ r. ⌜ r ≡ spanOf (tasksBy n (now (y .entry))) (standBy (rankedBy (now (p .entry))) s) (s .i) k ⌝ }
+    requires ranged { Ranged (tasks_by n y.now) × Stands (tasks_by n y.now) (ranked_by p.now) s × (k ≤ horizon) }
+    requires climbs { Climbs (start_sum (tasks_by n y.now) (stand_by (ranked_by p.now) s) s.i k) from }
+    ensures { result ≡ span_of (tasks_by n y.now) (stand_by (ranked_by p.now) s) s.i k }
 {
     let a = start(n, y, p, s, k, from);
     let Time::At(begun) = a else {

@@ -1,73 +1,73 @@
 -- The least fixed point of a function that never falls, by the bounded search of the definitions and by climbing to it.
-use Prim.Native.Nat.{ℕ, zero, suc, _+_, _-_, _≤_, _<_}
-use mathlib.Core.Path.{_≡_, refl, ap, ap₂, sym, _∙_}
+use Prim.Native.Nat.{ℕ, zero, suc, ◌+◌, ◌-◌, ◌≤◌, ◌<◌}
+use mathlib.Core.Path.{◌≡◌, refl, ap, ap₂, sym, ◌∙◌}
 use mathlib.Core.Bool.{Bool, true, false}
-use mathlib.Core.Logic.{⊎-elim}
-use native.Mathlib.Decide.{decLe, decLt}
+use mathlib.Core.Logic.{⊎_elim}
+use native.Mathlib.Decide.{dec_le, dec_lt}
 use native.Mathlib.Omega.{arith}
-use native.Mathlib.Nat.{le-refl, le-trans, eq-or-lt-of-le}
+use native.Mathlib.Nat.{le_refl, le_trans, eq-or-lt_of_le}
 use lib.Dec.{leb, eqb}
-use borrow.Author.Tests.{eq-eqb, ne-eqb, eqb-true, leb-true, le-leb}
-use Rattle·paper.specs.Vocabulary.{some}
-use Rattle·paper.specs.Numbers.{horizon}
-use Rattle·paper.specs.Analysis.{least, within}
-use Rattle·paper.specs.declared.Time.{Time}
-use Rattle·paper.specs.declared.Time.the-variants.{At, Beyond}
-use Rattle·paper.proofs.Tests.{some-says, some-there}
-use Rattle·paper.proofs.Searched.{searched}
+use borrow.Author.Tests.{eq-eqb, ne_eqb, eqb-true, leb-true, le-leb}
+use Rattle.paper.specs.Vocabulary.{some}
+use Rattle.paper.specs.Numbers.{horizon}
+use Rattle.paper.specs.Analysis.{least, within}
+use Rattle.paper.specs.declared.Time.{Time}
+use Rattle.paper.specs.declared.Time.TheVariants.{At, Beyond}
+use Rattle.paper.proofs.Tests.{some_says, some_there}
+use Rattle.paper.proofs.Searched.{searched}
 
 -- the search
 
-pub least-hit : (test : ℕ → Bool) (from n : ℕ) → test from ≡ true → least test from (suc n) ≡ At from
+pub least_hit : (test : ℕ → Bool) (from n : ℕ) → test from ≡ true → least test from (suc n) ≡ At from
 unfolding least
-least-hit test from n e = rw (e, least)
+least_hit test from n e = rw (e, least)
 
-pub least-miss : (test : ℕ → Bool) (from n : ℕ) → test from ≡ false → least test from (suc n) ≡ least test (suc from) n
+pub least_miss : (test : ℕ → Bool) (from n : ℕ) → test from ≡ false → least test from (suc n) ≡ least test (suc from) n
 unfolding least
-least-miss test from n e = rw (e, least)
+least_miss test from n e = rw (e, least)
 
 -- nothing is left to search
-pub least-none : (test : ℕ → Bool) (from n : ℕ) → n ≡ 0 → least test from n ≡ Beyond
+pub least_none : (test : ℕ → Bool) (from n : ℕ) → n ≡ 0 → least test from n ≡ Beyond
 unfolding least
-least-none test from n e = rw e
+least_none test from n e = rw e
 
 -- what fails need not be tried
-pub least-skip : (test : ℕ → Bool) (from k n : ℕ) → ((y : ℕ) → from ≤ y → y < from + k → test y ≡ false) → least test from (k + n) ≡ least test (from + k) n
-least-skip test from zero n h =
+pub least_skip : (test : ℕ → Bool) (from k n : ℕ) → ((y : ℕ) → from ≤ y → y < from + k → test y ≡ false) → least test from (k + n) ≡ least test (from + k) n
+least_skip test from zero n h =
     let e : zero + n ≡ n = omega arith in
     let f : from + zero ≡ from = omega arith in
     rw (e, f)
-least-skip test from (suc k) n h =
+least_skip test from (suc k) n h =
     let e : suc k + n ≡ suc (k + n) = omega arith in
     let f : from + suc k ≡ suc from + k = omega arith in
     rw (e, f)
-    (least-miss test from (k + n) (h from (le-refl from) (omega arith)) ∙ least-skip test (suc from) k n (λ y a b. h y (omega arith) (omega arith)))
+    (least_miss test from (k + n) (h from (le_refl from) (omega arith)) ∙ least_skip test (suc from) k n (λ y a b. h y (omega arith) (omega arith)))
 
-pub least-found : (test : ℕ → Bool) (from n x : ℕ) → from ≤ x → x < from + n → test x ≡ true → ((y : ℕ) → from ≤ y → y < x → test y ≡ false) → least test from n ≡ At x
-least-found test from zero x lo hi hit miss = absurd (omega arith)
-least-found test from (suc n) x lo hi hit miss =
-    ⊎-elim
-    (λ e. least-hit test from n (rw e hit) ∙ ap At e)
+pub least_found : (test : ℕ → Bool) (from n x : ℕ) → from ≤ x → x < from + n → test x ≡ true → ((y : ℕ) → from ≤ y → y < x → test y ≡ false) → least test from n ≡ At x
+least_found test from zero x lo hi hit miss = absurd (omega arith)
+least_found test from (suc n) x lo hi hit miss =
+    ⊎_elim
+    (λ e. least_hit test from n (rw e hit) ∙ ap At e)
     (λ l.
-    least-miss test from n (miss from (le-refl from) l)
-    ∙ least-found test (suc from) n x l (omega arith) hit (λ y a b. miss y (omega arith) b))
-    (eq-or-lt-of-le lo)
+    least_miss test from n (miss from (le_refl from) l)
+    ∙ least_found test (suc from) n x l (omega arith) hit (λ y a b. miss y (omega arith) b))
+    (eq-or-lt_of_le lo)
 
-pub least-beyond : (test : ℕ → Bool) (from n : ℕ) → ((y : ℕ) → from ≤ y → y < from + n → test y ≡ false) → least test from n ≡ Beyond
+pub least_beyond : (test : ℕ → Bool) (from n : ℕ) → ((y : ℕ) → from ≤ y → y < from + n → test y ≡ false) → least test from n ≡ Beyond
 unfolding least
-least-beyond test from zero miss = refl
-least-beyond test from (suc n) miss =
-    least-miss test from n (miss from (le-refl from) (omega arith))
-    ∙ least-beyond test (suc from) n (λ y a b. miss y (omega arith) (omega arith))
+least_beyond test from zero miss = refl
+least_beyond test from (suc n) miss =
+    least_miss test from n (miss from (le_refl from) (omega arith))
+    ∙ least_beyond test (suc from) n (λ y a b. miss y (omega arith) (omega arith))
 
 -- tests that agree from `from` on give the same answer
-pub least-same : (test other : ℕ → Bool) (from n : ℕ) → ((x : ℕ) → from ≤ x → test x ≡ other x) → least test from n ≡ least other from n
+pub least_same : (test other : ℕ → Bool) (from n : ℕ) → ((x : ℕ) → from ≤ x → test x ≡ other x) → least test from n ≡ least other from n
 unfolding least
-least-same test other from zero h = refl
-least-same test other from (suc n) h =
+least_same test other from zero h = refl
+least_same test other from (suc n) h =
     ap₂ (λ b t. elim b as (λ _. Time) [ true ↦ At from | false ↦ t ])
-    (h from (le-refl from))
-    (least-same test other (suc from) n (λ x l. h x (omega arith)))
+    (h from (le_refl from))
+    (least_same test other (suc from) n (λ x l. h x (omega arith)))
 
 -- fixed points
 
@@ -81,26 +81,26 @@ fixed f x = eqb x (f x)
 abbrev pub Under : (ℕ → ℕ) → ℕ → ℕ → Type 0
 Under f from x = (y : ℕ) → from ≤ y → y ≡ f y → x ≤ y
 
-under-step : (f : ℕ → ℕ) (from x : ℕ) → Mono f → Under f from x → Under f from (f x)
-under-step f from x m u y l e = omega (arith, m x y (u y l e))
+under_step : (f : ℕ → ℕ) (from x : ℕ) → Mono f → Under f from x → Under f from (f x)
+under_step f from x m u y l e = omega (arith, m x y (u y l e))
 
 -- the search may start at x: from there it tries what is left
-pub under-skip : (f : ℕ → ℕ) (from x n : ℕ) → Under f from x → from ≤ x → least (fixed f) from n ≡ least (fixed f) x (from + n - x)
-under-skip f from x n u l = go (decLe x (from + n))
+pub under_skip : (f : ℕ → ℕ) (from x n : ℕ) → Under f from x → from ≤ x → least (fixed f) from n ≡ least (fixed f) x (from + n - x)
+under_skip f from x n u l = go (dec_le x (from + n))
   where
     low : (y : ℕ) → from ≤ y → y < x → fixed f y ≡ false
-    low y a b = ne-eqb y (f y) (λ s. omega (arith, u y a s))
+    low y a b = ne_eqb y (f y) (λ s. omega (arith, u y a s))
 
     go : Dec (x ≤ from + n) → least (fixed f) from n ≡ least (fixed f) x (from + n - x)
     go (yes h) =
         let p : n ≡ x - from + (from + n - x) = omega arith in
         let q : from + (x - from) ≡ x = omega arith in
         ap (least (fixed f) from) p
-        ∙ least-skip (fixed f) from (x - from) (from + n - x) (λ y a b. low y a (omega arith))
+        ∙ least_skip (fixed f) from (x - from) (from + n - x) (λ y a b. low y a (omega arith))
         ∙ ap (λ z. least (fixed f) z (from + n - x)) q
     go (no h) =
-        least-beyond (fixed f) from n (λ y a b. low y a (omega arith))
-        ∙ sym (least-none (fixed f) x (from + n - x) (omega arith))
+        least_beyond (fixed f) from n (λ y a b. low y a (omega arith))
+        ∙ sym (least_none (fixed f) x (from + n - x) (omega arith))
 
 -- The loop x := f x from `from` up to the horizon: its invariant, and a law for each of its steps.
 pub record Climb (f : ℕ → ℕ) (from x : ℕ) : Type 0 where
@@ -110,32 +110,32 @@ pub record Climb (f : ℕ → ℕ) (from x : ℕ) : Type 0 where
   pub under : Under f from x
 
 module _ (f : ℕ → ℕ) (from : ℕ) where
-  pub climb-start : from ≤ horizon → from ≤ f from → Climb f from from
-  climb-start h r = record { low = le-refl from; high = h; rises = r; under = λ y l e. l }
+  pub climb_start : from ≤ horizon → from ≤ f from → Climb f from from
+  climb_start h r = record { low = le_refl from; high = h; rises = r; under = λ y l e. l }
 
   -- y is the next x; from here the search tries as many numbers as lead to the horizon
   module _ (x y : ℕ) (k : Climb f from x) (e : y ≡ f x) where
-    pub climb-again : Mono f → y ≤ horizon → Climb f from y
-    climb-again m h =
+    pub climb_again : Mono f → y ≤ horizon → Climb f from y
+    climb_again m h =
         record {
           low = omega arith;
           high = h;
           rises = omega (arith, m x y (omega arith));
-          under = rw e (under-step f from x m (k .under));
+          under = rw e (under_step f from x m k.under);
         }
 
-    pub climb-less : (y ≡ x → ⊥) → y ≤ horizon → horizon - y < horizon - x
-    climb-less d h = omega arith
+    pub climb_less : (y ≡ x → ⊥) → y ≤ horizon → horizon - y < horizon - x
+    climb_less d h = omega arith
 
-    pub climb-found : (n : ℕ) → from + n ≡ horizon + 1 → y ≡ x → At x ≡ least (fixed f) from n
-    climb-found n c s =
+    pub climb_found : (n : ℕ) → from + n ≡ horizon + 1 → y ≡ x → At x ≡ least (fixed f) from n
+    climb_found n c s =
         sym
-        (least-found (fixed f) from n x (k .low) (omega arith) (eq-eqb x (f x) (omega arith)) (λ z a b.
-        ne-eqb z (f z) (λ q. omega (arith, k .under z a q))))
+        (least_found (fixed f) from n x k.low (omega arith) (eq-eqb x (f x) (omega arith)) (λ z a b.
+        ne_eqb z (f z) (λ q. omega (arith, k.under z a q))))
 
-    pub climb-beyond : (n : ℕ) → from + n ≡ horizon + 1 → Mono f → horizon < y → Beyond ≡ least (fixed f) from n
-    climb-beyond n c m h =
-        sym (least-beyond (fixed f) from n (λ z a b. ne-eqb z (f z) (λ q. omega (arith, under-step f from x m (k .under) z a q))))
+    pub climb_beyond : (n : ℕ) → from + n ≡ horizon + 1 → Mono f → horizon < y → Beyond ≡ least (fixed f) from n
+    climb_beyond n c m h =
+        sym (least_beyond (fixed f) from n (λ z a b. ne_eqb z (f z) (λ q. omega (arith, under_step f from x m k.under z a q))))
 
 -- the least fixed point from `from` on is found, and is at most x
 pub record Found (f : ℕ → ℕ) (from n x : ℕ) : Type 0 where
@@ -149,39 +149,39 @@ pub record Found (f : ℕ → ℕ) (from n x : ℕ) : Type 0 where
 pub found : (f : ℕ → ℕ) (from n x : ℕ) → Mono f → from ≤ f from → from ≤ x → x < from + n → f x ≤ x → Found f from n x
 found f from zero x m r lo hi e = absurd (omega arith)
 found f from (suc n) x m r lo hi e =
-    ⊎-elim
-    (λ q. record { z = from; is = least-hit _ from n (eq-eqb from (f from) q); low = le-refl from; high = lo; fix = q })
-    (λ q. miss q (λ l. found f (suc from) n x m (le-trans q (m from (suc from) (omega arith))) l (omega arith) e))
-    (eq-or-lt-of-le r)
+    ⊎_elim
+    (λ q. record { z = from; is = least_hit _ from n (eq-eqb from (f from) q); low = le_refl from; high = lo; fix = q })
+    (λ q. miss q (λ l. found f (suc from) n x m (le_trans q (m from (suc from) (omega arith))) l (omega arith) e))
+    (eq-or-lt_of_le r)
   where
     miss : from < f from → (from < x → Found f (suc from) n x) → Found f from (suc n) x
     miss q go =
-        let w = go (⊎-elim (λ s. absurd (omega (arith, ap f s))) (λ s. s) (eq-or-lt-of-le lo)) in
+        let w = go (⊎_elim (λ s. absurd (omega (arith, ap f s))) (λ s. s) (eq-or-lt_of_le lo)) in
         record {
-          z = w .z;
-          is = least-miss _ from n (ne-eqb from (f from) (λ s. omega arith)) ∙ w .is;
-          low = omega (arith, w .low);
-          high = w .high;
-          fix = w .fix;
+          z = w.z;
+          is = least_miss _ from n (ne_eqb from (f from) (λ s. omega arith)) ∙ w.is;
+          low = omega (arith, w.low);
+          high = w.high;
+          fix = w.fix;
         }
 
 -- so the least is at most every x at which f doesn't rise
-pub least-under : (f : ℕ → ℕ) (from n s : ℕ) → Mono f → from ≤ f from → least (fixed f) from n ≡ At s → (x : ℕ) → from ≤ x → f x ≤ x → s ≤ x
-least-under f from n s m r e x lo h = go (decLt x (from + n))
+pub least_under : (f : ℕ → ℕ) (from n s : ℕ) → Mono f → from ≤ f from → least (fixed f) from n ≡ At s → (x : ℕ) → from ≤ x → f x ≤ x → s ≤ x
+least_under f from n s m r e x lo h = go (dec_lt x (from + n))
   where
     go : Dec (x < from + n) → s ≤ x
-    go (yes l) = let w = found f from n x m r lo l h in let q : s ≡ w .z = cc (w .is) in omega (arith, w .high)
-    go (no l) = omega (arith, searched (fixed f) from n s e .high)
+    go (yes l) = let w = found f from n x m r lo l h in let q : s ≡ w.z = cc w.is in omega (arith, w.high)
+    go (no l) = omega (arith, (searched (fixed f) from n s e).high)
 
 -- and rises with f: of a larger g every fixed point is at least what g makes of f's least
-pub under-larger : (f g : ℕ → ℕ) (from n s : ℕ) → Mono f → Mono g → from ≤ f from → ((x : ℕ) → f x ≤ g x) → least (fixed f) from n ≡ At s → Under g from (g s)
-under-larger f g from n s mf mg r h e y l q =
-    omega (arith, mg s y (least-under f from n s mf r e y l (omega (arith, h y))))
+pub under_larger : (f g : ℕ → ℕ) (from n s : ℕ) → Mono f → Mono g → from ≤ f from → ((x : ℕ) → f x ≤ g x) → least (fixed f) from n ≡ At s → Under g from (g s)
+under_larger f g from n s mf mg r h e y l q =
+    omega (arith, mg s y (least_under f from n s mf r e y l (omega (arith, h y))))
 
 -- Some t from 1 to n has f t ≤ t exactly where the least fixed point from 1 on is at most n: the one is searched for, the other climbed to.
-pub some-least : (f : ℕ → ℕ) (n : ℕ) → Mono f → 1 ≤ f 1 → n ≤ horizon → some n (λ t. leb (f t) t) ≡ within (least (fixed f) 1 horizon) n
+pub some_least : (f : ℕ → ℕ) (n : ℕ) → Mono f → 1 ≤ f 1 → n ≤ horizon → some n (λ t. leb (f t) t) ≡ within (least (fixed f) 1 horizon) n
 unfolding within
-some-least f n m r near = go (some n (λ t. leb (f t) t)) refl
+some_least f n m r near = go (some n (λ t. leb (f t) t)) refl
   where
     missed : (z : Time) → least (fixed f) 1 horizon ≡ z → some n (λ t. leb (f t) t) ≡ false → false ≡ within z n
     missed (At s) e none = ends (leb s n) refl
@@ -189,14 +189,14 @@ some-least f n m r near = go (some n (λ t. leb (f t) t)) refl
         ends : (b : Bool) → leb s n ≡ b → false ≡ b
         ends true h =
             let w = searched (fixed f) 1 horizon s e in
-            let at : s ≡ f s = eqb-true s (f s) (w .hit) in
-            sym none ∙ some-there n (λ t. leb (f t) t) s (w .low) (leb-true s n h) (le-leb (f s) s (omega arith))
+            let at : s ≡ f s = eqb-true s (f s) w.hit in
+            sym none ∙ some_there n (λ t. leb (f t) t) s w.low (leb-true s n h) (le-leb (f s) s (omega arith))
         ends false h = refl
     missed Beyond e none = refl
 
     go : (b : Bool) → some n (λ t. leb (f t) t) ≡ b → b ≡ within (least (fixed f) 1 horizon) n
     go true e =
-        let t = some-says n (λ t. leb (f t) t) e in
-        let w = found f 1 horizon (t .0) m r (t .1) (omega (arith, t .2)) (leb-true (f (t .0)) (t .0) (t .3)) in
-        rw (w .is) (sym (le-leb (w .z) n (omega (arith, w .high, t .2))))
+        let t = some_says n (λ t. leb (f t) t) e in
+        let w = found f 1 horizon t.0 m r t.1 (omega (arith, t.2)) (leb-true (f t.0) t.0 t.3) in
+        rw w.is (sym (le-leb w.z n (omega (arith, w.high, t.2))))
     go false e = missed (least (fixed f) 1 horizon) refl e

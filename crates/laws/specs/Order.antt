@@ -1,8 +1,5 @@
 -- Lists of numbers in the order of rows, for a search that goes by their beginnings.
-use Prim.Native.Nat.{ℕ, _<_, _≤_}
-use mathlib.Core.Path.{_≡_}
-use mathlib.Core.List.{List, [], _∷_}
-use mathlib.Core.Logic.{_⊎_}
+use Rattle.std.specs.Prelude.{ℕ, ◌<◌, ◌≤◌, ◌≡◌, List, [], ◌∷◌, ◌⊎◌}
 
 -- r begins with p, or is later than p
 unfoldable pub From : List ℕ → List ℕ → Type 0

@@ -1,59 +1,59 @@
 -- What is worked out on a table's columns is what the paper says of its records.
-use Prim.Native.Nat.{ℕ, _<_}
-use mathlib.Core.Path.{_≡_, ap, ap₂, _∙_}
-use mathlib.Core.Bool.{true, false, _||_, or-false}
+use Prim.Native.Nat.{ℕ, ◌<◌}
+use mathlib.Core.Path.{◌≡◌, ap, ap₂, ◌∙◌}
+use mathlib.Core.Bool.{true, false, ◌||◌, or-false}
 use mathlib.Core.List.{List}
-use lib.IntN.{ℤ, pos, _+ℤ_}
-use lib.ListN.{length, getD}
-use lib.Signed.{ltZ}
-use Rattle·paper.specs.Vocabulary.{every, lowest}
-use Rattle·paper.specs.Numbers.{mostTasks, perTask, rec, assigned, Assignment}
-use Rattle·paper.specs.Analysis.{Tasks, tasksOf}
-use Rattle·paper.specs.Regions.{listOf}
-use Rattle·paper.specs.Lengths.{slack, tolerance, noInstant, lowestNoInstant, lowestBelowZero, allowed, lengthOf, regionsFit, allFit}
-use Rattle·paper.specs.declared.Record.{Record}
-use Rattle·laws.proofs.Every.{every-same, lowest-same}
-use Rattle·laws.proofs.Lists.{per-task-at}
-use Rattle·columns.specs.Columns.{columnOf, columnsOf, tasksBy, rankedBy}
-use Rattle·columns.specs.declared.Column.the-variants.{Priority}
-use Rattle·columns.proofs.Tables.{tasks-by, assigned-by}
-use Rattle·lengths·specs.specs.Stages.{tolerancesOf, tolerancesLeft, lengthsLeft, falls}
+use lib.IntN.{ℤ, pos, ◌+ℤ◌}
+use lib.ListN.{length, get_or}
+use lib.Signed.{lt_z}
+use Rattle.paper.specs.Vocabulary.{every, lowest}
+use Rattle.paper.specs.Numbers.{most_tasks, per_task, rec, assigned, Assignment}
+use Rattle.paper.specs.Analysis.{Tasks, tasks_of}
+use Rattle.paper.specs.Regions.{list_of}
+use Rattle.paper.specs.Lengths.{slack, tolerance, no_instant, lowest_no_instant, lowest_below_zero, allowed, length_of, regions_fit, all_fit}
+use Rattle.paper.specs.declared.Record.{Record}
+use Rattle.laws.proofs.Every.{every_same, lowest_same}
+use Rattle.laws.proofs.Lists.{per_task_at}
+use Rattle.columns.specs.Columns.{column_of, columns_of, tasks_by, ranked_by}
+use Rattle.columns.specs.declared.Column.TheVariants.{Priority}
+use Rattle.columns.proofs.Tables.{tasks-by, assigned-by}
+use Rattle.lengths.specs.Stages.{tolerances_of, tolerances_left, lengths_left, falls}
 
 -- a table's columns stand for its records; thresholds play no part
-module _ (rs : List Record) (n : ℕ) {ys ps : List ℕ} (full : length rs ≡ mostTasks) (y : ys ≡ columnsOf rs) (p : ps ≡ columnOf rs Priority) where
-  pub tolerances-by : tolerancesLeft (tasksBy n ys) (rankedBy ps) ≡ tolerancesLeft (tasksOf rs n) (assigned rs)
+module _ (rs : List Record) (n : ℕ) {ys ps : List ℕ} (full : length rs ≡ most_tasks) (y : ys ≡ columns_of rs) (p : ps ≡ column_of rs Priority) where
+  pub tolerances_by : tolerances_left (tasks_by n ys) (ranked_by ps) ≡ tolerances_left (tasks_of rs n) (assigned rs)
   unfolding tolerance slack
-  tolerances-by = rw (y, p) (ap₂ tolerancesLeft (tasks-by rs n full) (assigned-by rs full))
+  tolerances_by = rw (y, p) (ap₂ tolerances_left (tasks-by rs n full) (assigned-by rs full))
 
-  pub lengths-by : lengthsLeft (tasksBy n ys) (rankedBy ps) ≡ lengthsLeft (tasksOf rs n) (assigned rs)
-  unfolding lowestBelowZero lengthOf allowed tolerance slack
-  lengths-by = rw (y, p) (ap₂ lengthsLeft (tasks-by rs n full) (assigned-by rs full))
+  pub lengths_by : lengths_left (tasks_by n ys) (ranked_by ps) ≡ lengths_left (tasks_of rs n) (assigned rs)
+  unfolding lowest_below_zero length_of allowed tolerance slack
+  lengths_by = rw (y, p) (ap₂ lengths_left (tasks-by rs n full) (assigned-by rs full))
 
 -- the tolerances in an array
-module _ (y : Tasks) (a : Assignment) {ticks : List ℤ} (known : ticks ≡ tolerancesOf y a) where
-  pub tick-at : (j : ℕ) → j < y .n → getD ticks j (pos 0) ≡ tolerance y a j
-  tick-at j l = rw known (per-task-at (y .n) (tolerance y a) (pos 0) (pos 0) j l)
+module _ (y : Tasks) (a : Assignment) {ticks : List ℤ} (known : ticks ≡ tolerances_of y a) where
+  pub tick_at : (j : ℕ) → j < y.n → get_or ticks j (pos 0) ≡ tolerance y a j
+  tick_at j l = rw known (per_task_at y.n (tolerance y a) (pos 0) (pos 0) j l)
 
   -- and what each task allows
-  pub allowed-at : (j : ℕ) {t : ℤ} → j < y .n → t ≡ getD ticks j (pos 0) → t +ℤ pos 1 ≡ allowed y a j
+  pub allowed_at : (j : ℕ) {t : ℤ} → j < y.n → t ≡ get_or ticks j (pos 0) → t +ℤ pos 1 ≡ allowed y a j
   unfolding allowed
-  allowed-at j l e = ap (λ (z : ℤ). z +ℤ pos 1) (e ∙ tick-at j l)
+  allowed_at j l e = ap (λ (z : ℤ). z +ℤ pos 1) (e ∙ tick_at j l)
 
   -- the lowest record that falls under 16, for lengths
-  pub lowest-by : lowest (y .n) (falls y true ticks) ≡ lowestBelowZero y a
-  unfolding lowestBelowZero
-  lowest-by = lowest-same (y .n) _ _ (λ k l. ap (λ q. noInstant y k || ltZ q (pos 0)) (tick-at k l))
+  pub lowest_by : lowest y.n (falls y true ticks) ≡ lowest_below_zero y a
+  unfolding lowest_below_zero
+  lowest_by = lowest_same y.n _ _ (λ k l. ap (λ q. no_instant y k || lt_z q (pos 0)) (tick_at k l))
 
 -- and for tolerances
-pub lowest-none-by : (y : Tasks) (ticks : List ℤ) → lowest (y .n) (falls y false ticks) ≡ lowestNoInstant y
-unfolding lowestNoInstant
-lowest-none-by y ticks = lowest-same (y .n) _ _ (λ k l. or-false (noInstant y k))
+pub lowest_none_by : (y : Tasks) (ticks : List ℤ) → lowest y.n (falls y false ticks) ≡ lowest_no_instant y
+unfolding lowest_no_instant
+lowest_none_by y ticks = lowest_same y.n _ _ (λ k l. or-false (no_instant y k))
 
 -- the region check with the lengths in an array
-pub fit-by : (rs : List Record) (y : Tasks) (a : Assignment) (lengths : List ℤ) (own catalogue : List ℕ) → lengths ≡ perTask (y .n) (lengthOf y a) (pos 0)
-    → every (y .n) (λ k. regionsFit (listOf (rec rs k .source) own catalogue) (rec rs k) (getD lengths k (pos 0))) ≡ allFit rs y a own catalogue
-unfolding allFit
-fit-by rs y a lengths own catalogue known =
-    every-same (y .n) _ _ (λ k l.
-    ap (regionsFit (listOf (rec rs k .source) own catalogue) (rec rs k))
-    (rw known (per-task-at (y .n) (lengthOf y a) (pos 0) (pos 0) k l)))
+pub fit_by : (rs : List Record) (y : Tasks) (a : Assignment) (lengths : List ℤ) (own catalogue : List ℕ) → lengths ≡ per_task y.n (length_of y a) (pos 0)
+    → every y.n (λ k. regions_fit (list_of (rec rs k).source own catalogue) (rec rs k) (get_or lengths k (pos 0))) ≡ all_fit rs y a own catalogue
+unfolding all_fit
+fit_by rs y a lengths own catalogue known =
+    every_same y.n _ _ (λ k l.
+    ap (regions_fit (list_of (rec rs k).source own catalogue) (rec rs k))
+    (rw known (per_task_at y.n (length_of y a) (pos 0) (pos 0) k l)))

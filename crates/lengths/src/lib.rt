@@ -1,42 +1,34 @@
 // Tolerances, lengths and the region check.
-ghost use mathlib.Core.Path.{_≡_};
-ghost use mathlib.Core.Bool.{cond};
-ghost use mathlib.Core.List.{[], _∷_};
-ghost use Prim.Native.Nat.{_≤_, _<_};
-ghost use lib.Dec.{leb};
-ghost use lib.IntN.{pos, _+ℤ_};
-ghost use Rattle·paper.specs.Vocabulary.{lowest};
-ghost use Rattle·paper.specs.Numbers.{mostTasks, perTask, assigned};
-ghost use Rattle·paper.specs.Analysis.{tasksOf};
-ghost use Rattle·paper.specs.Lengths.{smaller, lengthOf, allFit};
-ghost use Rattle·paper.specs.Refusals.{firstOf, toleranceBelowZero};
-ghost use Rattle·paper.specs.Answers.{fitFor, tolerancesAnswer, lengthsAnswer, fitAnswer};
-ghost use Rattle·paper.specs.declared.Outcome.the-variants.{Done};
-ghost use Rattle·columns.specs.Columns.{numberAt, tasksBy, rankedBy, Ranged};
-ghost use Rattle·lengths·specs.specs.Stages.{tolerancesOf, tolerancesLeft, lengthsLeft, falls, earlyAsks, turnedAway};
-use columns::Column;
-use columns::Numbers;
-use columns::Tasks;
-use paper::FitAnswer;
-use paper::MOST_TASKS;
-use paper::Outcome;
-use paper::Refusal;
-use paper::Table;
-use paper::TicksAnswer;
+
+#![tactic(auto)]
+
+ghost use Rattle.std.specs.Prelude.{◌≡◌, cond, [], ◌∷◌, ◌≤◌, ◌<◌, leb, pos, ◌+ℤ◌};
+ghost use Rattle.paper.specs.Vocabulary.{lowest};
+ghost use Rattle.paper.specs.Numbers.{most_tasks, per_task, assigned};
+ghost use Rattle.paper.specs.Analysis.{tasks_of};
+ghost use Rattle.paper.specs.Lengths.{smaller, length_of, all_fit};
+ghost use Rattle.paper.specs.Refusals.{first_of, tolerance_below_zero};
+ghost use Rattle.paper.specs.Answers.{fit_for, tolerances_answer, lengths_answer, fit_answer};
+ghost use Rattle.paper.specs.declared.Outcome.TheVariants.{Done};
+ghost use Rattle.columns.specs.Columns.{number_at, tasks_by, ranked_by, Ranged};
+ghost use Rattle.lengths.specs.Stages.{tolerances_of, tolerances_left, lengths_left, falls, early_asks, turned_away};
+
+use columns::{Column, Numbers, Tasks};
+use paper::{FitAnswer, MOST_TASKS, Outcome, Refusal, Table, TicksAnswer};
 use tolerance::Ticks;
 
 // There is no t from 1 to D − J.
 fn no_instant(y: &Tasks, k: usize) -> bool
-    requires { ⌜ k < mostTasks ⌝ }
-    ensures { λ b. ⌜ b ≡ leb (numberAt 2 (now (y .entry)) k) (numberAt 3 (now (y .entry)) k) ⌝ }
+    requires { k < most_tasks }
+    ensures { result ≡ leb (number_at 2 y.now k) (number_at 3 y.now k) }
 {
     columns::deadline(y, k) <= columns::jitter(y, k)
 }
 
 // The number of the lowest record with no t, or, if `below`, with ticks below zero; 0 where there is none.
 fn lowest_falling(n: usize, y: &Tasks, ticks: &Ticks, below: bool) -> usize
-    requires { ⌜ n ≤ mostTasks ⌝ }
-    ensures { λ r. ⌜ r ≡ lowest n (falls (tasksBy n (now (y .entry))) below (now (ticks .entry))) ⌝ }
+    requires { n ≤ most_tasks }
+    ensures { result ≡ lowest n (falls (tasks_by n y.now) below ticks.now) }
 {
     let mut k: usize = 0;
     while k < n {
@@ -50,7 +42,7 @@ fn lowest_falling(n: usize, y: &Tasks, ticks: &Ticks, below: bool) -> usize
 
 // The smaller of q and what a task above allows, its tolerance plus 1. Below q there is room for the 1.
 fn narrowed(q: i64, above: bool, tolerance: i64) -> i64
-    ensures { λ r. ⌜ r ≡ cond above (smaller q (tolerance +ℤ pos 1)) q ⌝ }
+    ensures { result ≡ cond above (smaller q (tolerance +ℤ pos 1)) q }
 {
     if above & (tolerance < q) {
         tolerance + 1
@@ -61,10 +53,10 @@ fn narrowed(q: i64, above: bool, tolerance: i64) -> i64
 
 // C(k), or the least tolerance of the tasks above k plus 1 where that is smaller.
 fn length_of(n: usize, y: &Tasks, p: &Numbers, ticks: &Ticks, k: usize) -> i64
-    requires { ⌜ Ranged (tasksBy n (now y)) ⌝ }
-    requires { ⌜ now ticks ≡ tolerancesOf (tasksBy n (now y)) (rankedBy (now p)) ⌝ }
-    requires { ⌜ k < n ⌝ }
-    ensures { λ r. ⌜ r ≡ lengthOf (tasksBy n (now (y .entry))) (rankedBy (now (p .entry))) k ⌝ }
+    requires ranged { Ranged (tasks_by n y.now) }
+    requires ticks_value { ticks.now ≡ tolerances_of (tasks_by n y.now) (ranked_by p.now) }
+    requires k_lt_n { k < n }
+    ensures { result ≡ length_of (tasks_by n y.now) (ranked_by p.now) k }
 {
     let rank = p[k];
     let mut q = columns::cost(y, k) as i64;
@@ -77,9 +69,9 @@ fn length_of(n: usize, y: &Tasks, p: &Numbers, ticks: &Ticks, k: usize) -> i64
 }
 
 fn all_lengths(n: usize, y: &Tasks, p: &Numbers, ticks: &Ticks) -> Ticks
-    requires { ⌜ Ranged (tasksBy n (now y)) ⌝ }
-    requires { ⌜ now ticks ≡ tolerancesOf (tasksBy n (now y)) (rankedBy (now p)) ⌝ }
-    ensures { λ r. ⌜ r ≡ perTask n (lengthOf (tasksBy n (now (y .entry))) (rankedBy (now (p .entry)))) (pos 0) ⌝ }
+    requires ranged { Ranged (tasks_by n y.now) }
+    requires ticks_value { ticks.now ≡ tolerances_of (tasks_by n y.now) (ranked_by p.now) }
+    ensures { result ≡ per_task n (length_of (tasks_by n y.now) (ranked_by p.now)) (pos 0) }
 {
     let mut lengths = [0i64; MOST_TASKS];
     let mut k: usize = 0;
@@ -91,7 +83,7 @@ fn all_lengths(n: usize, y: &Tasks, p: &Numbers, ticks: &Ticks) -> Ticks
 }
 
 fn turned_away(r: Refusal) -> TicksAnswer
-    ensures { λ a. ⌜ a ≡ turnedAway r ⌝ }
+    ensures { result ≡ turned_away r }
 {
     TicksAnswer {
         outcome: Outcome::Refused(r),
@@ -101,8 +93,8 @@ fn turned_away(r: Refusal) -> TicksAnswer
 
 // Refusal 16 where there is no t, or the tolerances: one below zero is a number.
 fn tolerances_or_refusal(n: usize, y: &Tasks, p: &Numbers) -> TicksAnswer
-    requires { ⌜ Ranged (tasksBy n (now y)) ⌝ }
-    ensures { λ r. ⌜ r ≡ tolerancesLeft (tasksBy n (now (y .entry))) (rankedBy (now (p .entry))) ⌝ }
+    requires { Ranged (tasks_by n y.now) }
+    ensures { result ≡ tolerances_left (tasks_by n y.now) (ranked_by p.now) }
 {
     let ticks = tolerance::all_tolerances(n, y, p);
     let low = lowest_falling(n, y, &ticks, false);
@@ -117,8 +109,8 @@ fn tolerances_or_refusal(n: usize, y: &Tasks, p: &Numbers) -> TicksAnswer
 
 // Refusal 16 where there is no t or a tolerance is below zero, or the lengths.
 fn lengths_or_refusal(n: usize, y: &Tasks, p: &Numbers) -> TicksAnswer
-    requires { ⌜ Ranged (tasksBy n (now y)) ⌝ }
-    ensures { λ r. ⌜ r ≡ lengthsLeft (tasksBy n (now (y .entry))) (rankedBy (now (p .entry))) ⌝ }
+    requires { Ranged (tasks_by n y.now) }
+    ensures { result ≡ lengths_left (tasks_by n y.now) (ranked_by p.now) }
 {
     let ticks = tolerance::all_tolerances(n, y, p);
     let low = lowest_falling(n, y, &ticks, true);
@@ -134,8 +126,8 @@ fn lengths_or_refusal(n: usize, y: &Tasks, p: &Numbers) -> TicksAnswer
 
 // What is left of a call of tolerances once the deadlines hold. The table is unpacked once.
 fn tolerances_in_range(t: Table) -> TicksAnswer
-    requires { ⌜ Ranged (tasksOf (t .records) (t .n)) ⌝ }
-    ensures { λ r. ⌜ r ≡ tolerancesLeft (tasksOf (t .records) (t .n)) (assigned (t .records)) ⌝ }
+    requires { Ranged (tasks_of t.records t.n) }
+    ensures { result ≡ tolerances_left (tasks_of t.records t.n) (assigned t.records) }
 {
     let rs = t.records;
     let y = columns::columns_of(rs);
@@ -144,7 +136,7 @@ fn tolerances_in_range(t: Table) -> TicksAnswer
 }
 
 pub fn tolerances(t: Table) -> TicksAnswer
-    ensures { λ r. ⌜ r ≡ tolerancesAnswer t ⌝ }
+    ensures { result ≡ tolerances_answer t }
 {
     let outcome = outcomes::deadlines_outcome(t);
     match outcome {
@@ -155,8 +147,8 @@ pub fn tolerances(t: Table) -> TicksAnswer
 
 // And of a call of lengths.
 fn lengths_in_range(t: Table) -> TicksAnswer
-    requires { ⌜ Ranged (tasksOf (t .records) (t .n)) ⌝ }
-    ensures { λ r. ⌜ r ≡ lengthsLeft (tasksOf (t .records) (t .n)) (assigned (t .records)) ⌝ }
+    requires { Ranged (tasks_of t.records t.n) }
+    ensures { result ≡ lengths_left (tasks_of t.records t.n) (assigned t.records) }
 {
     let rs = t.records;
     let y = columns::columns_of(rs);
@@ -165,7 +157,7 @@ fn lengths_in_range(t: Table) -> TicksAnswer
 }
 
 pub fn lengths(t: Table) -> TicksAnswer
-    ensures { λ r. ⌜ r ≡ lengthsAnswer t ⌝ }
+    ensures { result ≡ lengths_answer t }
 {
     let outcome = outcomes::deadlines_outcome(t);
     match outcome {
@@ -177,7 +169,7 @@ pub fn lengths(t: Table) -> TicksAnswer
 // All that the region check asks before the tolerances, in the paper's order; the test of fixed preemption points asks it too. The
 // checks behind the first look at n records and m words.
 pub fn early_outcome(t: Table, own: &[u32], catalogue: &[u32]) -> Outcome
-    ensures { λ x. ⌜ x ≡ firstOf (earlyAsks t (now (own .entry)) (now (catalogue .entry))) ⌝ }
+    ensures { result ≡ first_of (early_asks t own.now catalogue.now) }
 {
     let n = t.n;
     let rs = t.records;
@@ -203,7 +195,7 @@ pub fn early_outcome(t: Table, own: &[u32], catalogue: &[u32]) -> Outcome
 }
 
 fn verdict(fits: bool) -> FitAnswer
-    ensures { λ r. ⌜ r ≡ fitFor Done fits ⌝ }
+    ensures { result ≡ fit_for Done fits }
 {
     if fits {
         FitAnswer::Fits
@@ -214,8 +206,8 @@ fn verdict(fits: bool) -> FitAnswer
 
 // What is left of a region check once none of those applies: refusal 16, or the answer.
 fn fit_in_range(t: Table, own: &[u32], catalogue: &[u32]) -> FitAnswer
-    requires { ⌜ Ranged (tasksOf (t .records) (t .n)) ⌝ }
-    ensures { λ r. ⌜ r ≡ fitFor (firstOf (toleranceBelowZero t ∷ [])) (allFit (t .records) (tasksOf (t .records) (t .n)) (assigned (t .records)) (now (own .entry)) (now (catalogue .entry))) ⌝ }
+    requires { Ranged (tasks_of t.records t.n) }
+    ensures { result ≡ fit_for (first_of (tolerance_below_zero t ∷ [])) (all_fit t.records (tasks_of t.records t.n) (assigned t.records) own.now catalogue.now) }
 {
     let answer = lengths_in_range(t);
     let outcome = answer.outcome;
@@ -230,7 +222,7 @@ fn fit_in_range(t: Table, own: &[u32], catalogue: &[u32]) -> FitAnswer
 }
 
 pub fn region_check(t: Table, own: &[u32], catalogue: &[u32]) -> FitAnswer
-    ensures { λ r. ⌜ r ≡ fitAnswer t (now (own .entry)) (now (catalogue .entry)) ⌝ }
+    ensures { result ≡ fit_answer t own.now catalogue.now }
 {
     let outcome = early_outcome(t, own, catalogue);
     match outcome {

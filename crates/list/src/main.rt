@@ -3,16 +3,12 @@
 //
 // The list ends in `end` and the number of its rows, or in `more` where rows follow that aren't printed. Where standard input
 // can't be read or standard output can't be written, it says so on standard error and stops: a list that lost rows has neither.
-ghost use Prim.Native.Nat.{_≤_};
-ghost use lib.ListN.{length};
-use paper::MOST_TASKS;
-use paper::MOST_WORDS;
-use paper::Outcome;
-use paper::Refusal;
-use paper::RowAnswer;
-use paper::Table;
-use request::PLATE_AND_FILE;
-use request::PLATE_BYTES;
+#![tactic(auto)]
+
+ghost use Rattle.std.specs.Prelude.{◌≤◌, length};
+
+use paper::{MOST_TASKS, MOST_WORDS, Outcome, Refusal, RowAnswer, Table};
+use request::{PLATE_AND_FILE, PLATE_BYTES};
 use say::Form;
 
 // As many numbers as the longest row has.
@@ -39,80 +35,86 @@ fn wide(x: u8) -> u64 {
     x as u64
 }
 
-fn put_row(buf: &mut [u8], at: usize, row: &[u8]) -> usize
-    requires { ⌜ at ≤ length (now buf) ⌝ }
-    ensures { λ r. ⌜ r ≤ length (now (buf .entry)) ⌝ }
+fn put_row<R: Print + Eprint>(rt: &R, buf: &mut [u8], at: usize, row: &[u8]) -> usize
+    requires { at ≤ length buf.old }
+    ensures { result ≤ length buf.old }
 {
     if row.len() == 0 {
         return at;
     }
-    let first = say::decimal(buf, at, wide(row[0]));
-    let rest = say::bytes(buf, first, Form::Number, &row[1..]);
-    say::newline(buf, rest)
+    let first = say::decimal(rt, buf, at, wide(row[0]));
+    let rest = say::bytes(rt, buf, first, Form::Number, &row[1..]);
+    say::newline(rt, buf, rest)
 }
 
 // A word and a number on a line of their own.
-fn put_count(buf: &mut [u8], at: usize, word: &[u8], number: u64) -> usize
-    requires { ⌜ at ≤ length (now buf) ⌝ }
-    ensures { λ r. ⌜ r ≤ length (now (buf .entry)) ⌝ }
+fn put_count<R: Print + Eprint>(
+    rt: &R,
+    buf: &mut [u8],
+    at: usize,
+    word: &[u8],
+    number: u64,
+) -> usize
+    requires { at ≤ length buf.old }
+    ensures { result ≤ length buf.old }
 {
-    let counted = say::count(buf, at, word, number);
-    say::newline(buf, counted)
+    let counted = say::count(rt, buf, at, word, number);
+    say::newline(rt, buf, counted)
 }
 
 // The last line. `follows`: a row was found behind the last that was printed.
-fn put_last(buf: &mut [u8], at: usize, rows: u64, follows: bool) -> usize
-    requires { ⌜ at ≤ length (now buf) ⌝ }
-    ensures { λ r. ⌜ r ≤ length (now (buf .entry)) ⌝ }
+fn put_last<R: Print + Eprint>(rt: &R, buf: &mut [u8], at: usize, rows: u64, follows: bool) -> usize
+    requires { at ≤ length buf.old }
+    ensures { result ≤ length buf.old }
 {
     if follows {
-        let more = say::word(buf, at, b"more");
-        return say::newline(buf, more);
+        let more = say::word(rt, buf, at, b"more");
+        return say::newline(rt, buf, more);
     }
-    put_count(buf, at, b"end", rows)
+    put_count(rt, buf, at, b"end", rows)
 }
 
 // Every row, up to the most that are printed, and the last line. `row` has room for the numbers of one, and no more.
-fn put_rows(buf: &mut [u8], at: usize, t: Table, row: &mut [u8]) -> usize
-    requires { ⌜ at ≤ length (now buf) ⌝ }
-    ensures { λ r. ⌜ r ≤ length (now (buf .entry)) ⌝ }
+fn put_rows<R: Print + Eprint>(rt: &R, buf: &mut [u8], at: usize, t: Table, row: &mut [u8]) -> usize
+    requires { at ≤ length buf.old }
+    ensures { result ≤ length buf.old }
 {
     let mut end = at;
     let mut rows: u64 = 0;
     let mut found = is_row(listing::first_row(t, row));
     while rows < MOST_ROWS && found {
-        end = put_row(buf, end, row);
+        end = put_row(rt, buf, end, row);
         rows += 1;
         // Nothing is searched for once a write has failed.
         found = !text::lost(buf, end) && step(t, row);
     }
     // After the last row that may be printed, too, one more was searched for: a list that ends just there is whole.
-    put_last(buf, end, rows, found)
+    put_last(rt, buf, end, rows, found)
 }
 
-fn put_table(buf: &mut [u8], t: Table) -> usize
-    ensures { λ r. ⌜ r ≤ length (now (buf .entry)) ⌝ }
+fn put_table<R: Print + Eprint>(rt: &R, buf: &mut [u8], t: Table) -> usize
+    ensures { result ≤ length buf.old }
 {
     let n = t.n;
-    let start = put_count(buf, 0, b"tasks", n as u64);
+    let start = put_count(rt, buf, 0, b"tasks", n as u64);
     let mut row = [0u8; ROW];
     let used = fronts::of_bytes(&row, 2 * fronts::smaller(n, MOST_TASKS));
-    put_rows(buf, start, t, &mut row[..used])
+    put_rows(rt, buf, start, t, &mut row[..used])
 }
 
-fn put_refused(buf: &mut [u8], r: Refusal) -> usize
-    ensures { λ x. ⌜ x ≤ length (now (buf .entry)) ⌝ }
+fn put_refused<R: Print + Eprint>(rt: &R, buf: &mut [u8], r: Refusal) -> usize
+    ensures { result ≤ length buf.old }
 {
-    let said = say::refused(buf, 0, r);
-    say::newline(buf, said)
+    let said = say::refused(rt, buf, 0, r);
+    say::newline(rt, buf, said)
 }
 
 // There is room for the words of any file, so that 12 is never the answer.
-fn put_list(buf: &mut [u8], input: &[u8]) -> usize
-    ensures { λ r. ⌜ r ≤ length (now (buf .entry)) ⌝ }
+fn put_list<R: Print + Eprint>(rt: &R, buf: &mut [u8], input: &[u8]) -> usize
+    ensures { result ≤ length buf.old }
 {
     if input.len() < PLATE_BYTES {
-        return put_refused(buf, Refusal::Short);
+        return put_refused(rt, buf, Refusal::Short);
     }
     let cabinet = request::plate_cabinet(input);
     let line = request::plate_line(input);
@@ -121,20 +123,20 @@ fn put_list(buf: &mut [u8], input: &[u8]) -> usize
     let answer = reader::read(&input[PLATE_BYTES..], cabinet, line, &catalogue, &mut words);
     let outcome = answer.outcome;
     match outcome {
-        Outcome::Refused(r) => put_refused(buf, r),
-        Outcome::Done => put_table(buf, answer.table),
+        Outcome::Refused(r) => put_refused(rt, buf, r),
+        Outcome::Done => put_table(rt, buf, answer.table),
     }
 }
 
-fn main() {
+fn main(rt: HostRuntime) {
     let mut input = [0u8; PLATE_AND_FILE];
-    let got = intake::read_whole(libc::STDIN_FILENO, &mut input);
-    if got.failed {
-        os::fail(b"standard input");
+    let got = intake::read_whole(&mut rt.stdin(), &mut input);
+    if let Some(error) = got.failed {
+        text::fail(&rt, "standard input", error);
         return;
     }
     let n = got.bytes;
     let mut buf = io::large_buffer();
-    let end = put_list(&mut buf, &input[..n]);
-    text::flush(&buf, end);
+    let end = put_list(&rt, &mut buf, &input[..n]);
+    text::flush(&rt, &buf, end);
 }

@@ -1,86 +1,86 @@
 -- From what the search finds to what the two calls answer.
-use Prim.Native.Nat.{ℕ, suc, _+_, _-_, _≤_}
+use Prim.Native.Nat.{ℕ, suc, ◌+◌, ◌-◌, ◌≤◌}
 use native.Mathlib.Nat.{not-suc-le-zero}
 use native.Mathlib.Omega.{arith}
-use mathlib.Core.Path.{_≡_, refl, sym, ap, subst, _∙_}
+use mathlib.Core.Path.{◌≡◌, refl, sym, ap, subst, ◌∙◌}
 use mathlib.Core.Bool.{Bool, true, false, not}
-use mathlib.Core.List.{List, [], _∷_, _++_}
-use lib.ListN.{length, take, drop, getD, set, replicate, length-take}
-use lib.Seq.{take-suc, take-suc-set, length-take-le, take-at, drop-at}
-use Rattle·paper.specs.Numbers.{mostTasks}
-use Rattle·paper.specs.Analysis.{Tasks, tasksOf}
-use Rattle·paper.specs.Rows.{rowSize, rowHolds, Later, Passing, Ended}
-use Rattle·paper.specs.Refusals.{Asks, firstOf, firstAsks}
-use Rattle·paper.specs.Answers.{Lists, Says, FirstSays, NextSays}
-use Rattle·paper.specs.declared.Refusal.{Refusal}
-use Rattle·paper.specs.declared.Refusal.the-variants.{BadRow}
-use Rattle·paper.specs.declared.Record.{Record}
-use Rattle·paper.specs.declared.Table.{Table}
-use Rattle·paper.specs.declared.Outcome.{Outcome}
-use Rattle·paper.specs.declared.Outcome.the-variants.{Done, Refused}
-use Rattle·paper.specs.declared.RowAnswer.{RowAnswer}
-use Rattle·paper.specs.declared.RowAnswer.the-variants as Row
-use Rattle·laws.specs.Order.{From, Within}
-use Rattle·laws.proofs.Order.{from-start, from-on, later-from, from-later-bump, within-none, within-last}
-use Rattle·columns.specs.Columns.{columnsOf, tasksBy, Ranged}
-use Rattle·columns.proofs.Tables.{ranged-by, tasks-by, ranged}
-use Rattle·checks.proofs.Asks.{first-passed, first-refused}
-use Rattle·checks.proofs.Meaning.{some, few}
-use Rattle·outcomes.proofs.Meaning.{first-row-done}
-use Rattle·paper.proofs.Formed.{formed}
-use Rattle·rows.proofs.Places.{formed-within}
-use Rattle·search.specs.Search.{Begun, FirstFrom, NoneFrom, Finds}
-use Rattle·search.proofs.Moves.{begun-set, passing-size, passing-within}
-use Rattle·listing·specs.specs.Lists.{Accepted, ListsFrom}
+use mathlib.Core.List.{List, [], ◌∷◌, ◌++◌}
+use lib.ListN.{length, take, drop, get_or, set, replicate, length-take}
+use lib.Seq.{take-suc, take-suc-set, length-take-le, take_at, drop_at}
+use Rattle.paper.specs.Numbers.{most_tasks}
+use Rattle.paper.specs.Analysis.{Tasks, tasks_of}
+use Rattle.paper.specs.Rows.{row_size, row_holds, Later, Passing, Ended}
+use Rattle.paper.specs.Refusals.{Asks, first_of, first_asks}
+use Rattle.paper.specs.Answers.{Lists, Says, FirstSays, NextSays}
+use Rattle.paper.specs.declared.Refusal.{Refusal}
+use Rattle.paper.specs.declared.Refusal.TheVariants.{BadRow}
+use Rattle.paper.specs.declared.Record.{Record}
+use Rattle.paper.specs.declared.Table.{Table}
+use Rattle.paper.specs.declared.Outcome.{Outcome}
+use Rattle.paper.specs.declared.Outcome.TheVariants.{Done, Refused}
+use Rattle.paper.specs.declared.RowAnswer.{RowAnswer}
+use Rattle.paper.specs.declared.RowAnswer.TheVariants as Row
+use Rattle.laws.specs.Order.{From, Within}
+use Rattle.laws.proofs.Order.{from_start, from_on, later_from, from_later_bump, within_none, within_last}
+use Rattle.columns.specs.Columns.{columns_of, tasks_by, Ranged}
+use Rattle.columns.proofs.Tables.{ranged_by, tasks-by, ranged}
+use Rattle.checks.proofs.Asks.{first_passed, first_refused}
+use Rattle.checks.proofs.Meaning.{some, few}
+use Rattle.outcomes.proofs.Meaning.{first_row_done}
+use Rattle.paper.proofs.Formed.{formed}
+use Rattle.rows.proofs.Places.{formed_within}
+use Rattle.search.specs.Search.{Begun, FirstFrom, NoneFrom, Finds}
+use Rattle.search.proofs.Moves.{begun_set, passing_size, passing_within}
+use Rattle.listing.specs.Lists.{Accepted, ListsFrom}
 
 -- A table that is not turned away.
 module _ {t : Table} {room : ℕ} (ok : Accepted t room) where
-  pub some-tasks : 1 ≤ t .n
-  some-tasks = some (t .n) (first-row-done t room (ok .done) .counts)
+  pub some_tasks : 1 ≤ t.n
+  some_tasks = some t.n (first_row_done t room ok.done).counts
 
-  pub few-tasks : t .n ≤ mostTasks
-  few-tasks = few (t .n) (first-row-done t room (ok .done) .counts)
+  pub few_tasks : t.n ≤ most_tasks
+  few_tasks = few t.n (first_row_done t room ok.done).counts
 
-  pub enough-room : rowSize (t .n) ≤ room
-  enough-room = first-row-done t room (ok .done) .fits
+  pub enough_room : row_size t.n ≤ room
+  enough_room = (first_row_done t room ok.done).fits
 
 -- The tasks in its columns are its own.
-module _ (t : Table) {ys : List ℕ} (o : (ys ≡ columnsOf (t .records)) × (length (t .records) ≡ mostTasks)) where
-  same-tasks : tasksBy (t .n) ys ≡ tasksOf (t .records) (t .n)
-  same-tasks = rw (o .0) (tasks-by (t .records) (t .n) (o .1))
+module _ (t : Table) {ys : List ℕ} (o : (ys ≡ columns_of t.records) × (length t.records ≡ most_tasks)) where
+  same_tasks : tasks_by t.n ys ≡ tasks_of t.records t.n
+  same_tasks = rw o.0 (tasks-by t.records t.n o.1)
 
   -- so the analysis may run on them
-  pub tasks-ranged : {room : ℕ} → Accepted t room → Ranged (tasksBy (t .n) ys)
-  tasks-ranged {room} ok = ranged-by (t .records) (t .n) (o .0) (o .1) (ranged (t .records) (t .n) (few-tasks ok) (first-row-done t room (ok .done) .ranges))
+  pub tasks_ranged : {room : ℕ} → Accepted t room → Ranged (tasks_by t.n ys)
+  tasks_ranged {room} ok = ranged_by t.records t.n o.0 o.1 (ranged t.records t.n (few_tasks ok) (first_row_done t room ok.done).ranges)
 
   -- what a search among them finds: a row, which the digits hold,
-  module _ (q digits : List ℕ) {row : Bool} (f : Finds (tasksBy (t .n) ys) q row digits) where
-    found-row : row ≡ true → FirstFrom (tasksOf (t .records) (t .n)) q (take (rowSize (t .n)) digits)
+  module _ (q digits : List ℕ) {row : Bool} (f : Finds (tasks_by t.n ys) q row digits) where
+    found_row : row ≡ true → FirstFrom (tasks_of t.records t.n) q (take (row_size t.n) digits)
     unfolding Finds
-    found-row e =
-        subst (λ (y : Tasks). FirstFrom y q (take (rowSize (y .n)) digits)) same-tasks
-        (subst (λ (b : Bool). Finds (tasksBy (t .n) ys) q b digits) e f)
+    found_row e =
+        subst (λ (y : Tasks). FirstFrom y q (take (row_size y.n) digits)) same_tasks
+        (subst (λ (b : Bool). Finds (tasks_by t.n ys) q b digits) e f)
 
-    row-size : row ≡ true → length (take (rowSize (t .n)) digits) ≡ rowSize (t .n)
-    row-size e = passing-size (tasksOf (t .records) (t .n)) _ (found-row e .passing)
+    row-size : row ≡ true → length (take (row_size t.n) digits) ≡ row_size t.n
+    row-size e = passing_size (tasks_of t.records t.n) _ (found_row e).passing
 
-    pub row-inside : row ≡ true → rowSize (t .n) ≤ length digits
-    row-inside e = omega (arith, row-size e, length-take (rowSize (t .n)) digits)
+    pub row_inside : row ≡ true → row_size t.n ≤ length digits
+    row_inside e = omega (arith, row-size e, length-take (row_size t.n) digits)
 
     -- and which is written over the front of the buffer;
-    pub row-written : (out out' : List ℕ) → row ≡ true → out' ≡ take (rowSize (t .n)) digits ++ drop (rowSize (t .n)) out
-        → ListsFrom (tasksOf (t .records) (t .n)) q out out' Row.Row
+    pub row_written : (out out' : List ℕ) → row ≡ true → out' ≡ take (row_size t.n) digits ++ drop (row_size t.n) out
+        → ListsFrom (tasks_of t.records t.n) q out out' Row.Row
     unfolding ListsFrom
-    row-written out out' e w =
-        let k = rowSize (t .n) in
-        let front : take k out' ≡ take k digits = ap (λ (x : List ℕ). take k x) w ∙ take-at (take k digits) (drop k out) k (row-size e) in
-        (rw front (found-row e), ap (λ (x : List ℕ). drop k x) w ∙ drop-at (take k digits) (drop k out) k (row-size e))
+    row_written out out' e w =
+        let k = row_size t.n in
+        let front : take k out' ≡ take k digits = ap (λ (x : List ℕ). take k x) w ∙ take_at (take k digits) (drop k out) k (row-size e) in
+        (rw front (found_row e), ap (λ (x : List ℕ). drop k x) w ∙ drop_at (take k digits) (drop k out) k (row-size e))
 
     -- or none
-    pub end-reached : (out : List ℕ) → row ≡ false → ListsFrom (tasksOf (t .records) (t .n)) q out out Row.End
+    pub end_reached : (out : List ℕ) → row ≡ false → ListsFrom (tasks_of t.records t.n) q out out Row.End
     unfolding Finds ListsFrom
-    end-reached out e =
-        (subst (λ (y : Tasks). NoneFrom y q) same-tasks (subst (λ (b : Bool). Finds (tasksBy (t .n) ys) q b digits) e f), refl)
+    end_reached out e =
+        (subst (λ (y : Tasks). NoneFrom y q) same_tasks (subst (λ (b : Bool). Finds (tasks_by t.n ys) q b digits) e f), refl)
 
 -- Where the passing rows from q on are those later than `given`, the search answers what is asked.
 lists : (y : Tasks) (given q out out' : List ℕ) (a : RowAnswer) → ((r : List ℕ) → Passing y r → Later given r → From q r)
@@ -88,114 +88,114 @@ lists : (y : Tasks) (given q out out' : List ℕ) (a : RowAnswer) → ((r : List
 unfolding Lists ListsFrom NoneFrom Ended
 lists y given q out out' Row.Row g h l = (
   record {
-    passing = l .0 .passing;
-    after = h _ (l .0 .passing) (l .0 .onward);
-    first = λ r p f e. l .0 .first r p (g r p f) e;
+    passing = l.0.passing;
+    after = h _ l.0.passing l.0.onward;
+    first = λ r p f e. l.0.first r p (g r p f) e;
   },
-  l .1,
+  l.1,
 )
-lists y given q out out' Row.End g h l = (λ r p f. l .0 r p (g r p f), l .1)
+lists y given q out out' Row.End g h l = (λ r p f. l.0 r p (g r p f), l.1)
 lists y given q out out' (Row.Refused r) g h l = l
 
-says-done : {o : Outcome} (y : Tasks) (given out out' : List ℕ) (a : RowAnswer) → o ≡ Done → Lists y given out out' a → Says o y given out out' a
+says_done : {o : Outcome} (y : Tasks) (given out out' : List ℕ) (a : RowAnswer) → o ≡ Done → Lists y given out out' a → Says o y given out out' a
 unfolding Says
-says-done y given out out' a e l = subst (λ (o : Outcome). Says o y given out out' a) (sym e) l
+says_done y given out out' a e l = subst (λ (o : Outcome). Says o y given out out' a) (sym e) l
 
-says-refused : {o : Outcome} (y : Tasks) (given out : List ℕ) (r : Refusal) → o ≡ Refused r → Says o y given out out (Row.Refused r)
+says_refused : {o : Outcome} (y : Tasks) (given out : List ℕ) (r : Refusal) → o ≡ Refused r → Says o y given out out (Row.Refused r)
 unfolding Says
-says-refused y given out r e = subst (λ (o : Outcome). Says o y given out out (Row.Refused r)) (sym e) (refl, refl)
+says_refused y given out r e = subst (λ (o : Outcome). Says o y given out out (Row.Refused r)) (sym e) (refl, refl)
 
 -- The first row: the search starts at the digit 1. A start at 2 would be a candidate too: that no row is skipped is said by the answer.
-pub first-begun : {t : Table} {room x : ℕ} → Accepted t room → 1 ≤ x → x ≤ 2 → Begun (t .n) (replicate (rowSize mostTasks) x) 0
-first-begun {t} ok above below =
-    let l = some-tasks ok in
-    record { few = few-tasks ok; inside = omega arith; size = refl; head = within-none (t .n); low = omega arith; high = omega arith }
+pub first_begun : {t : Table} {room x : ℕ} → Accepted t room → 1 ≤ x → x ≤ 2 → Begun t.n (replicate (row_size most_tasks) x) 0
+first_begun {t} ok above below =
+    let l = some_tasks ok in
+    record { few = few_tasks ok; inside = omega arith; size = refl; head = within_none t.n; low = omega arith; high = omega arith }
 
-pub first-refused-says : (t : Table) (out : List ℕ) (r : Refusal) → firstOf (firstAsks t (length out)) ≡ Refused r → FirstSays t out out (Row.Refused r)
+pub first_refused_says : (t : Table) (out : List ℕ) (r : Refusal) → first_of (first_asks t (length out)) ≡ Refused r → FirstSays t out out (Row.Refused r)
 unfolding FirstSays
-first-refused-says t out r e = says-refused _ [] out r e
+first_refused_says t out r e = says_refused _ [] out r e
 
-later-none : (r : List ℕ) → 1 ≤ length r → Later [] r
+later_none : (r : List ℕ) → 1 ≤ length r → Later [] r
 unfolding Later
-later-none [] l = absurd (not-suc-le-zero l)
-later-none (a ∷ r) l = tt
+later_none [] l = absurd (not-suc-le-zero l)
+later_none (a ∷ r) l = tt
 
-pub first-says : (t : Table) (out out' : List ℕ) (a : RowAnswer) → Accepted t (length out)
-    → ListsFrom (tasksOf (t .records) (t .n)) (1 ∷ []) out out' a → FirstSays t out out' a
+pub first_says : (t : Table) (out out' : List ℕ) (a : RowAnswer) → Accepted t (length out)
+    → ListsFrom (tasks_of t.records t.n) (1 ∷ []) out out' a → FirstSays t out out' a
 unfolding FirstSays
-first-says t out out' a ok l =
-    let y = tasksOf (t .records) (t .n) in
-    let n = some-tasks ok in
-    says-done y [] out out' a (ok .done)
+first_says t out out' a ok l =
+    let y = tasks_of t.records t.n in
+    let n = some_tasks ok in
+    says_done y [] out out' a ok.done
     (lists y [] (1 ∷ []) out out' a
-    (λ r p f. from-on (t .n) [] r (omega (arith, passing-size y r p)) (passing-within y r p) (from-start r))
-    (λ r p f. later-none r (omega (arith, passing-size y r p)))
+    (λ r p f. from_on t.n [] r (omega (arith, passing_size y r p)) (passing_within y r p) (from_start r))
+    (λ r p f. later_none r (omega (arith, passing_size y r p)))
     l)
 
 -- The next row: the given row is well formed, and stands at the front of l.
 pub record Loaded (n : ℕ) (given l : List ℕ) : Type 0 where
-  pub holds : rowHolds n given ≡ true
-  pub size : length l ≡ rowSize mostTasks
+  pub holds : row_holds n given ≡ true
+  pub size : length l ≡ row_size most_tasks
   pub front : take (length given) l ≡ given
 
 -- the search goes on with the last number one up
-module _ {n : ℕ} {given l : List ℕ} (g : Loaded n given l) (some' : 1 ≤ n) (few' : n ≤ mostTasks) where
-  split : given ≡ take (rowSize n - 1) l ++ (getD l (rowSize n - 1) 0 ∷ [])
+module _ {n : ℕ} {given l : List ℕ} (g : Loaded n given l) (some' : 1 ≤ n) (few' : n ≤ most_tasks) where
+  split : given ≡ take (row_size n - 1) l ++ (get_or l (row_size n - 1) 0 ∷ [])
   split =
-      let one : length given ≡ suc (rowSize n - 1) = omega (arith, formed n given (g .holds) .size) in
-      sym (g .front) ∙ ap (λ (k : ℕ). take k l) one ∙ take-suc l (rowSize n - 1) 0 (omega arith)
+      let one : length given ≡ suc (row_size n - 1) = omega (arith, (formed n given g.holds).size) in
+      sym g.front ∙ ap (λ (k : ℕ). take k l) one ∙ take-suc l (row_size n - 1) 0 (omega arith)
 
-  parts : Within n (take (rowSize n - 1) l) × (getD l (rowSize n - 1) 0 ≤ n)
+  parts : Within n (take (row_size n - 1) l) × (get_or l (row_size n - 1) 0 ≤ n)
   parts =
-      within-last n (take (rowSize n - 1) l) (getD l (rowSize n - 1) 0)
-      (subst (λ (r : List ℕ). Within n r) split (formed-within n given (formed n given (g .holds))))
+      within_last n (take (row_size n - 1) l) (get_or l (row_size n - 1) 0)
+      (subst (λ (r : List ℕ). Within n r) split (formed_within n given (formed n given g.holds)))
 
-  pub last-most : getD l (rowSize n - 1) 0 ≤ n
-  last-most = parts .1
+  pub last_most : get_or l (row_size n - 1) 0 ≤ n
+  last_most = parts.1
 
-  pub next-begun : Begun n (set l (rowSize n - 1) (getD l (rowSize n - 1) 0 + 1)) (rowSize n - 1)
-  next-begun = begun-set l (rowSize n - 1) _ few' (omega arith) (g .size) (parts .0) (omega arith) (omega (arith, last-most))
+  pub next_begun : Begun n (set l (row_size n - 1) (get_or l (row_size n - 1) 0 + 1)) (row_size n - 1)
+  next_begun = begun_set l (row_size n - 1) _ few' (omega arith) g.size parts.0 (omega arith) (omega (arith, last_most))
 
-  next-lists : (rs : List Record) (out out' : List ℕ) (a : RowAnswer)
-      → ListsFrom (tasksOf rs n) (take (suc (rowSize n - 1)) (set l (rowSize n - 1) (getD l (rowSize n - 1) 0 + 1))) out out' a
-      → Lists (tasksOf rs n) given out out' a
-  next-lists rs out out' a h =
-      let y = tasksOf rs n in
-      let j = rowSize n - 1 in
-      let x = getD l j 0 in
+  next_lists : (rs : List Record) (out out' : List ℕ) (a : RowAnswer)
+      → ListsFrom (tasks_of rs n) (take (suc (row_size n - 1)) (set l (row_size n - 1) (get_or l (row_size n - 1) 0 + 1))) out out' a
+      → Lists (tasks_of rs n) given out out' a
+  next_lists rs out out' a h =
+      let y = tasks_of rs n in
+      let j = row_size n - 1 in
+      let x = get_or l j 0 in
       let e = take-suc-set l j (x + 1) (omega arith) in
       let m = length-take-le j l (omega arith) in
       lists y given (take j l ++ ((x + 1) ∷ [])) out out' a
-      (λ r p f. later-from (take j l) r x (omega (arith, passing-size y r p)) (subst (λ (s : List ℕ). Later s r) split f))
-      (λ r p f. subst (λ (s : List ℕ). Later s r) (sym split) (from-later-bump (take j l) r x f))
+      (λ r p f. later_from (take j l) r x (omega (arith, passing_size y r p)) (subst (λ (s : List ℕ). Later s r) split f))
+      (λ r p f. subst (λ (s : List ℕ). Later s r) (sym split) (from_later_bump (take j l) r x f))
       (rw e at h)
 
 -- after what the first row asks comes the row asked from
-abbrev rowAsk : Table → List ℕ → Asks
-rowAsk t given = (BadRow, not (rowHolds (t .n) given)) ∷ []
+abbrev row_ask : Table → List ℕ → Asks
+row_ask t given = (BadRow, not (row_holds t.n given)) ∷ []
 
-row-good : (t : Table) (given : List ℕ) → rowHolds (t .n) given ≡ true → firstOf (rowAsk t given) ≡ Done
-row-good t given e = rw e
+row_good : (t : Table) (given : List ℕ) → row_holds t.n given ≡ true → first_of (row_ask t given) ≡ Done
+row_good t given e = rw e
 
-row-bad : (t : Table) (given : List ℕ) → rowHolds (t .n) given ≡ false → firstOf (rowAsk t given) ≡ Refused BadRow
-row-bad t given e = rw e
+row_bad : (t : Table) (given : List ℕ) → row_holds t.n given ≡ false → first_of (row_ask t given) ≡ Refused BadRow
+row_bad t given e = rw e
 
-pub next-refused-says : (t : Table) (given out : List ℕ) (r : Refusal) → firstOf (firstAsks t (length out)) ≡ Refused r → NextSays t given out out (Row.Refused r)
+pub next_refused_says : (t : Table) (given out : List ℕ) (r : Refusal) → first_of (first_asks t (length out)) ≡ Refused r → NextSays t given out out (Row.Refused r)
 unfolding NextSays
-next-refused-says t given out r e =
-    says-refused (tasksOf (t .records) (t .n)) given out r (first-refused (firstAsks t (length out)) (rowAsk t given) r e)
+next_refused_says t given out r e =
+    says_refused (tasks_of t.records t.n) given out r (first_refused (first_asks t (length out)) (row_ask t given) r e)
 
-pub bad-row-says : (t : Table) (given out : List ℕ) → Accepted t (length out) → rowHolds (t .n) given ≡ false → NextSays t given out out (Row.Refused BadRow)
+pub bad_row_says : (t : Table) (given out : List ℕ) → Accepted t (length out) → row_holds t.n given ≡ false → NextSays t given out out (Row.Refused BadRow)
 unfolding NextSays
-bad-row-says t given out ok e =
-    says-refused (tasksOf (t .records) (t .n)) given out BadRow
-    (first-passed (firstAsks t (length out)) (rowAsk t given) (ok .done) ∙ row-bad t given e)
+bad_row_says t given out ok e =
+    says_refused (tasks_of t.records t.n) given out BadRow
+    (first_passed (first_asks t (length out)) (row_ask t given) ok.done ∙ row_bad t given e)
 
-pub next-says : (t : Table) (given l out out' : List ℕ) (a : RowAnswer) → Accepted t (length out) → Loaded (t .n) given l
-    → ListsFrom (tasksOf (t .records) (t .n)) (take (suc (rowSize (t .n) - 1)) (set l (rowSize (t .n) - 1) (getD l (rowSize (t .n) - 1) 0 + 1))) out out' a
+pub next_says : (t : Table) (given l out out' : List ℕ) (a : RowAnswer) → Accepted t (length out) → Loaded t.n given l
+    → ListsFrom (tasks_of t.records t.n) (take (suc (row_size t.n - 1)) (set l (row_size t.n - 1) (get_or l (row_size t.n - 1) 0 + 1))) out out' a
     → NextSays t given out out' a
 unfolding NextSays
-next-says t given l out out' a ok g h =
-    says-done (tasksOf (t .records) (t .n)) given out out' a
-    (first-passed (firstAsks t (length out)) (rowAsk t given) (ok .done) ∙ row-good t given (g .holds))
-    (next-lists g (some-tasks ok) (few-tasks ok) (t .records) out out' a h)
+next_says t given l out out' a ok g h =
+    says_done (tasks_of t.records t.n) given out out' a
+    (first_passed (first_asks t (length out)) (row_ask t given) ok.done ∙ row_good t given g.holds)
+    (next_lists g (some_tasks ok) (few_tasks ok) t.records out out' a h)

@@ -1,21 +1,20 @@
 // The listing of passing assignments: the first row, and the first after a given row.
-ghost use Prim.Native.Nat.{suc};
-ghost use lib.ListN.{length, take};
-ghost use Rattle·paper.specs.Analysis.{tasksOf};
-ghost use Rattle·paper.specs.Answers.{FirstSays, NextSays};
-ghost use Rattle·search.specs.Search.{Begun};
-ghost use Rattle·listing·specs.specs.Lists.{Accepted, ListsFrom};
-use paper::Outcome;
-use paper::Refusal;
-use paper::RowAnswer;
-use paper::Table;
-use rows::Digits;
-use rows::MOST_NUMBERS;
+
+#![tactic(auto)]
+
+ghost use Rattle.std.specs.Prelude.{suc, length, take};
+ghost use Rattle.paper.specs.Analysis.{tasks_of};
+ghost use Rattle.paper.specs.Answers.{FirstSays, NextSays};
+ghost use Rattle.search.specs.Search.{Begun};
+ghost use Rattle.listing.specs.Lists.{Accepted, ListsFrom};
+
+use paper::{Outcome, Refusal, RowAnswer, Table};
+use rows::{Digits, MOST_NUMBERS};
 
 // Searches from a candidate on, and writes the row that is found.
 fn answer(t: Table, start: Digits, at: usize, out: &mut [u8]) -> RowAnswer
-    requires { ⌜ Accepted t (length (now out)) × Begun (t .n) start at ⌝ }
-    ensures { λ r. ⌜ ListsFrom (tasksOf (t .records) (t .n)) (take (suc at) start) (now (out .entry)) (now (out .exit)) r ⌝ }
+    requires { Accepted t (length out.old) × Begun t.n start at }
+    ensures { ListsFrom (tasks_of t.records t.n) (take (suc at) start) out.old out.new result }
 {
     let n = t.n;
     let records = t.records;
@@ -30,7 +29,7 @@ fn answer(t: Table, start: Digits, at: usize, out: &mut [u8]) -> RowAnswer
 }
 
 pub fn first_row(t: Table, out: &mut [u8]) -> RowAnswer
-    ensures { λ r. ⌜ FirstSays t (now (out .entry)) (now (out .exit)) r ⌝ }
+    ensures { FirstSays t out.old out.new result }
 {
     let outcome = outcomes::first_outcome(t, out.len());
     if let Outcome::Refused(r) = outcome {
@@ -41,7 +40,7 @@ pub fn first_row(t: Table, out: &mut [u8]) -> RowAnswer
 
 // The search goes on at the given row with its last number one up.
 pub fn next_row(t: Table, given: &[u8], out: &mut [u8]) -> RowAnswer
-    ensures { λ r. ⌜ NextSays t (now (given .entry)) (now (out .entry)) (now (out .exit)) r ⌝ }
+    ensures { NextSays t given.now out.old out.new result }
 {
     let outcome = outcomes::first_outcome(t, out.len());
     if let Outcome::Refused(r) = outcome {

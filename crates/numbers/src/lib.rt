@@ -1,11 +1,14 @@
 // A refusal by the paper's number, for a program that prints it or a caller in another language.
-ghost use mathlib.Core.Path.{_≡_};
-ghost use Rattle·paper.specs.Refusals.{numberOf};
+#![tactic(auto)]
+
+ghost use Rattle.std.specs.Prelude.{◌≡◌};
+ghost use Rattle.paper.specs.Refusals.{number_of};
+
 use paper::Refusal;
 
 // The paper's number.
 pub fn number_of(r: Refusal) -> u64
-    ensures { λ x. ⌜ x ≡ numberOf r ⌝ }
+    ensures { result ≡ number_of r }
 {
     match r {
         Refusal::Short => 1,

@@ -1,14 +1,16 @@
 // What calls ask that are lent a table alone.
-ghost use mathlib.Core.Path.{_≡_};
-ghost use Rattle·paper.specs.Refusals.{firstOf, timesAsks, firstAsks};
-ghost use Rattle·outcomes·specs.specs.Shared.{deadlinesAsks};
-use paper::Outcome;
-use paper::Refusal;
-use paper::Table;
+
+#![tactic(auto)]
+
+ghost use Rattle.std.specs.Prelude.{◌≡◌};
+ghost use Rattle.paper.specs.Refusals.{first_of, times_asks, first_asks};
+ghost use Rattle.outcomes.specs.Shared.{deadlines_asks};
+
+use paper::{Outcome, Refusal, Table};
 
 // What response times ask, in the order asked. n comes first: the other checks look at n records.
 pub fn times_outcome(t: Table) -> Outcome
-    ensures { λ x. ⌜ x ≡ firstOf (timesAsks t) ⌝ }
+    ensures { result ≡ first_of (times_asks t) }
 {
     let n = t.n;
     let rs = t.records;
@@ -29,7 +31,7 @@ pub fn times_outcome(t: Table) -> Outcome
 
 // What tolerances and lengths ask alike: the same, and then the deadlines.
 pub fn deadlines_outcome(t: Table) -> Outcome
-    ensures { λ x. ⌜ x ≡ firstOf (deadlinesAsks t) ⌝ }
+    ensures { result ≡ first_of (deadlines_asks t) }
 {
     let outcome = times_outcome(t);
     match outcome {
@@ -46,7 +48,7 @@ pub fn deadlines_outcome(t: Table) -> Outcome
 
 // What the first row of a listing asks.
 pub fn first_outcome(t: Table, room: usize) -> Outcome
-    ensures { λ x. ⌜ x ≡ firstOf (firstAsks t room) ⌝ }
+    ensures { result ≡ first_of (first_asks t room) }
 {
     let rs = t.records;
     if !checks::tasks_in_range(t.n) {

@@ -1,17 +1,13 @@
 // The parts of a cabinet file that stand before its seal: the head, the records and the region words.
-ghost use mathlib.Core.Path.{_≡_};
-ghost use mathlib.Core.List.{[], _∷_};
-ghost use Prim.Native.Nat.{_+_, _*_, _<_, _≤_, _^_};
-ghost use lib.ListN.{length, replicate, take, drop};
-ghost use Rattle·paper.specs.Numbers.{mostTasks, mostWords};
-ghost use Rattle·paper.specs.Bits.{putField, putFields};
-ghost use Rattle·paper.specs.File.{inEdition, sourceBit, usedWidths, recordWidths, recordValues, wordAt, fileLength, putHead, putRecords, putWords};
-ghost use Rattle·layout.specs.Places.{Holds, Lies};
-use paper::Cabinet;
-use paper::Line;
-use paper::MOST_TASKS;
-use paper::Record;
-use paper::Source;
+#![tactic(auto)]
+
+ghost use Rattle.std.specs.Prelude.{◌≡◌, [], ◌∷◌, ◌+◌, ◌*◌, ◌<◌, ◌≤◌, ◌^◌, length, replicate, take, drop};
+ghost use Rattle.paper.specs.Numbers.{most_tasks, most_words};
+ghost use Rattle.paper.specs.Bits.{put_field, put_fields};
+ghost use Rattle.paper.specs.File.{in_edition, source_bit, used_widths, record_widths, record_values, word_at, file_length, put_head, put_records, put_words};
+ghost use Rattle.layout.specs.Places.{Holds, Lies};
+
+use paper::{Cabinet, Line, MOST_TASKS, Record, Source};
 
 const HEAD_WIDTHS: [usize; 6] = [4, 4, 24, 16, 8, 8];
 
@@ -19,7 +15,7 @@ const HEAD_WIDTHS: [usize; 6] = [4, 4, 24, 16, 8, 8];
 const CLEAR: u64 = 0;
 
 fn clear(s: &mut [u8])
-    ensures { λ _. ⌜ now (s .exit) ≡ replicate (length (now (s .entry))) 0 ⌝ }
+    ensures { s.new ≡ replicate (length s.old) 0 }
 {
     let mut i: usize = 0;
     while i < s.len() {
@@ -30,8 +26,8 @@ fn clear(s: &mut [u8])
 
 // Makes s the head over zero bits.
 pub fn put_head(s: &mut [u8], edition: u8, cabinet: Cabinet, line: Line, n: usize, m: usize)
-    requires { ⌜ (n ≤ mostTasks) × (m ≤ mostWords) × (length (now s) ≡ fileLength edition n m) ⌝ }
-    ensures { λ _. ⌜ now (s .exit) ≡ putHead edition (cabinet .0) (line .0) n m ⌝ }
+    requires { (n ≤ most_tasks) × (m ≤ most_words) × (length s.old ≡ file_length edition n m) }
+    ensures { s.new ≡ put_head edition cabinet.0 line.0 n m }
 {
     clear(s);
     let values: [u64; 6] = [
@@ -46,7 +42,7 @@ pub fn put_head(s: &mut [u8], edition: u8, cabinet: Cabinet, line: Line, n: usiz
 }
 
 fn source_bit(source: Source) -> u64
-    ensures { λ r. ⌜ r ≡ sourceBit source ⌝ }
+    ensures { result ≡ source_bit source }
 {
     match source {
         Source::Own => 0,
@@ -65,8 +61,8 @@ fn put_numbers(
     priority: u32,
     threshold: u32,
 )
-    requires { ⌜ (at + 68 ≤ length (now s) * 8) × (at < 2 ^ 20) ⌝ }
-    ensures { λ _. ⌜ now (s .exit) ≡ putFields (now (s .entry)) at (take 5 usedWidths) (cost ∷ period ∷ deadline ∷ priority ∷ threshold ∷ []) ⌝ }
+    requires { (at + 68 ≤ length s.old * 8) × (at < 2 ^ 20) }
+    ensures { s.new ≡ put_fields s.old at (take 5 used_widths) (cost ∷ period ∷ deadline ∷ priority ∷ threshold ∷ []) }
 {
     bits::put(s, at, 20, cost as u64);
     bits::put(s, at + 20, 20, period as u64);
@@ -76,8 +72,8 @@ fn put_numbers(
 }
 
 fn put_places(s: &mut [u8], at: usize, source: u64, first: u32, count: u32, name: u32)
-    requires { ⌜ (at + 22 ≤ length (now s) * 8) × (at < 2 ^ 20) ⌝ }
-    ensures { λ _. ⌜ now (s .exit) ≡ putFields (now (s .entry)) at (take 4 (drop 5 usedWidths)) (source ∷ first ∷ count ∷ name ∷ []) ⌝ }
+    requires { (at + 22 ≤ length s.old * 8) × (at < 2 ^ 20) }
+    ensures { s.new ≡ put_fields s.old at (take 4 (drop 5 used_widths)) (source ∷ first ∷ count ∷ name ∷ []) }
 {
     bits::put(s, at, 1, source);
     bits::put(s, at + 1, 7, first as u64);
@@ -87,8 +83,8 @@ fn put_places(s: &mut [u8], at: usize, source: u64, first: u32, count: u32, name
 
 // Behind them in edition 1 six spare bits, in edition 2 the jitter and ten.
 fn put_tail(s: &mut [u8], at: usize, edition: u8, jitter: u32)
-    requires { ⌜ (at + inEdition edition 6 30 ≤ length (now s) * 8) × (at < 2 ^ 20) ⌝ }
-    ensures { λ _. ⌜ now (s .exit) ≡ putFields (now (s .entry)) at (inEdition edition (6 ∷ []) (20 ∷ 10 ∷ [])) (inEdition edition (0 ∷ []) (jitter ∷ 0 ∷ [])) ⌝ }
+    requires { (at + in_edition edition 6 30 ≤ length s.old * 8) × (at < 2 ^ 20) }
+    ensures { s.new ≡ put_fields s.old at (in_edition edition (6 ∷ []) (20 ∷ 10 ∷ [])) (in_edition edition (0 ∷ []) (jitter ∷ 0 ∷ [])) }
 {
     if edition == layout::EDITION_TWO {
         bits::put(s, at, layout::JITTER_BITS, jitter as u64);
@@ -100,8 +96,8 @@ fn put_tail(s: &mut [u8], at: usize, edition: u8, jitter: u32)
 
 // The record r, from bit `at` on.
 fn put_record(s: &mut [u8], edition: u8, at: usize, r: Record)
-    requires { ⌜ Lies (length (now s)) edition at ⌝ }
-    ensures { λ _. ⌜ now (s .exit) ≡ putFields (now (s .entry)) at (recordWidths edition) (recordValues edition r) ⌝ }
+    requires { Lies (length s.old) edition at }
+    ensures { s.new ≡ put_fields s.old at (record_widths edition) (record_values edition r) }
 {
     let source = r.source;
     let bit = source_bit(source);
@@ -112,8 +108,8 @@ fn put_record(s: &mut [u8], edition: u8, at: usize, r: Record)
 
 // Puts the first n records.
 pub fn put_records(s: &mut [u8], edition: u8, rs: [Record; MOST_TASKS], n: usize)
-    requires { ⌜ Holds (length (now s)) edition n ⌝ }
-    ensures { λ _. ⌜ now (s .exit) ≡ putRecords (now (s .entry)) edition rs n ⌝ }
+    requires { Holds (length s.old) edition n }
+    ensures { s.new ≡ put_records s.old edition rs n }
 {
     let mut i: usize = 0;
     while i < n {
@@ -127,8 +123,8 @@ pub fn put_records(s: &mut [u8], edition: u8, rs: [Record; MOST_TASKS], n: usize
 const PAIR_BITS: usize = 2 * layout::WORD_BITS;
 
 fn put_pair(s: &mut [u8], at: usize, a: u32, b: u32)
-    requires { ⌜ (at + 40 ≤ length (now s) * 8) × (at < 2 ^ 20) ⌝ }
-    ensures { λ _. ⌜ now (s .exit) ≡ putField (putField (now (s .entry)) at 20 a) (at + 20) 20 b ⌝ }
+    requires { (at + 40 ≤ length s.old * 8) × (at < 2 ^ 20) }
+    ensures { s.new ≡ put_field (put_field s.old at 20 a) (at + 20) 20 b }
 {
     bits::put(s, at, layout::WORD_BITS, a as u64);
     bits::put(s, at + layout::WORD_BITS, layout::WORD_BITS, b as u64);
@@ -136,8 +132,8 @@ fn put_pair(s: &mut [u8], at: usize, a: u32, b: u32)
 
 // Puts the first 2p words after n records.
 fn put_pairs(s: &mut [u8], edition: u8, n: usize, ws: &[u32], p: usize)
-    requires { ⌜ (n ≤ mostTasks) × (2 * p ≤ length (now ws)) × (length (now ws) ≤ mostWords) × (wordAt edition n (length (now ws)) ≤ length (now s) * 8) ⌝ }
-    ensures { λ _. ⌜ now (s .exit) ≡ putWords (now (s .entry)) edition n (now (ws .entry)) (2 * p) ⌝ }
+    requires { (n ≤ most_tasks) × (2 * p ≤ length ws.now) × (length ws.now ≤ most_words) × (word_at edition n (length ws.now) ≤ length s.old * 8) }
+    ensures { s.new ≡ put_words s.old edition n ws.now (2 * p) }
 {
     let at = layout::record_at(edition, n);
     let mut i: usize = 0;
@@ -149,8 +145,8 @@ fn put_pairs(s: &mut [u8], edition: u8, n: usize, ws: &[u32], p: usize)
 
 // Puts the region words after n records.
 pub fn put_words(s: &mut [u8], edition: u8, n: usize, ws: &[u32])
-    requires { ⌜ (n ≤ mostTasks) × (length (now ws) ≤ mostWords) × (wordAt edition n (length (now ws)) ≤ length (now s) * 8) ⌝ }
-    ensures { λ _. ⌜ now (s .exit) ≡ putWords (now (s .entry)) edition n (now (ws .entry)) (length (now (ws .entry))) ⌝ }
+    requires { (n ≤ most_tasks) × (length ws.now ≤ most_words) × (word_at edition n (length ws.now) ≤ length s.old * 8) }
+    ensures { s.new ≡ put_words s.old edition n ws.now (length ws.now) }
 {
     let m = ws.len();
     let p = m / 2;

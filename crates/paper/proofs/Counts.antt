@@ -1,56 +1,56 @@
 -- n is 1 to 15 (document 02, item 6). Every call that asks 5 refuses another number of tasks with it.
-use Prim.Native.Nat.{ℕ, _≤_}
-use mathlib.Core.Path.{_≡_, refl}
+use Prim.Native.Nat.{ℕ, ◌≤◌}
+use mathlib.Core.Path.{◌≡◌, refl}
 use mathlib.Core.Bool.{true, false}
-use mathlib.Core.List.{List, [], _∷_, map}
+use mathlib.Core.List.{List, [], ◌∷◌, map}
 use lib.ListN.{take, replicate}
 use borrow.Author.Tests.{le-leb, lt-leb}
 use native.Mathlib.Omega.{arith}
-use Rattle·paper·specs.specs.Numbers.{mostTasks, tasksInRange}
-use Rattle·paper·specs.specs.File.{isEdition, tasksIn}
-use Rattle·paper·specs.specs.Refusals.{numberOf, Asks, firstOf, fileAsks, recordAsks, readAsks, writeAsks, timesAsks, tolerancesAsks, lengthsAsks, fitAsks, firstAsks, nextAsks, regionsAsks}
-use Rattle·paper·proofs.proofs.Asks.{NoneApplies}
-use Rattle·paper·specs.specs.declared.Table.{Table}
-use Rattle·paper·specs.specs.declared.Refusal.the-variants.{WrongCounts}
-use Rattle·paper·specs.specs.declared.Outcome.the-variants.{Refused}
+use Rattle.paper.specs.Numbers.{most_tasks, tasks_in_range}
+use Rattle.paper.specs.File.{is_edition, tasks_in}
+use Rattle.paper.specs.Refusals.{number_of, Asks, first_of, file_asks, record_asks, read_asks, write_asks, times_asks, tolerances_asks, lengths_asks, fit_asks, first_asks, next_asks, regions_asks}
+use Rattle.paper.proofs.Asks.{NoneApplies}
+use Rattle.paper.specs.declared.Table.{Table}
+use Rattle.paper.specs.declared.Refusal.TheVariants.{WrongCounts}
+use Rattle.paper.specs.declared.Outcome.TheVariants.{Refused}
 
-pub tasks-taken : (n : ℕ) → 1 ≤ n → n ≤ 15 → tasksInRange n ≡ true
-tasks-taken n a b = rw (le-leb 1 n a, le-leb n mostTasks (omega arith)) refl
+pub tasks_taken : (n : ℕ) → 1 ≤ n → n ≤ 15 → tasks_in_range n ≡ true
+tasks_taken n a b = rw (le-leb 1 n a, le-leb n most_tasks (omega arith)) refl
 
-pub no-task : tasksInRange 0 ≡ false
-no-task = refl
+pub no_task : tasks_in_range 0 ≡ false
+no_task = refl
 
-pub too-many-tasks : (n : ℕ) → 16 ≤ n → tasksInRange n ≡ false
-too-many-tasks n a = rw (le-leb 1 n (omega arith), lt-leb n mostTasks (omega arith)) refl
+pub too_many_tasks : (n : ℕ) → 16 ≤ n → tasks_in_range n ≡ false
+too_many_tasks n a = rw (le-leb 1 n (omega arith), lt-leb n most_tasks (omega arith)) refl
 
-pub with-5 : numberOf WrongCounts ≡ 5
-with-5 = refl
+pub with_5 : number_of WrongCounts ≡ 5
+with_5 = refl
 
 -- of a table it is asked first, in writing behind the edition e that is told
-abbrev asksOfTable : ℕ → Table → List ℕ → List ℕ → List ℕ → ℕ → ℕ → ℕ → ℕ → List Asks
-asksOfTable e t own catalogue given cabinet line room number =
-    writeAsks e t cabinet line own catalogue room ∷
-    timesAsks t ∷
-    tolerancesAsks t ∷
-    lengthsAsks t ∷
-    fitAsks t own catalogue ∷
-    firstAsks t room ∷
-    nextAsks t given room ∷
-    regionsAsks t own catalogue number ∷ []
+abbrev asks_of_table : ℕ → Table → List ℕ → List ℕ → List ℕ → ℕ → ℕ → ℕ → ℕ → List Asks
+asks_of_table e t own catalogue given cabinet line room number =
+    write_asks e t cabinet line own catalogue room ∷
+    times_asks t ∷
+    tolerances_asks t ∷
+    lengths_asks t ∷
+    fit_asks t own catalogue ∷
+    first_asks t room ∷
+    next_asks t given room ∷
+    regions_asks t own catalogue number ∷ []
 
-pub table-refused : (e : ℕ) (t : Table) → isEdition e ≡ true → tasksInRange (t .n) ≡ false → (own catalogue given : List ℕ) (cabinet line room number : ℕ)
-    → map (λ asks. firstOf asks) (asksOfTable e t own catalogue given cabinet line room number) ≡ replicate 8 (Refused WrongCounts)
-table-refused e t edition tasks own catalogue given cabinet line room number = rw (edition, tasks) refl
+pub table_refused : (e : ℕ) (t : Table) → is_edition e ≡ true → tasks_in_range t.n ≡ false → (own catalogue given : List ℕ) (cabinet line room number : ℕ)
+    → map (λ asks. first_of asks) (asks_of_table e t own catalogue given cabinet line room number) ≡ replicate 8 (Refused WrongCounts)
+table_refused e t edition tasks own catalogue given cabinet line room number = rw (edition, tasks) refl
 
 -- what is asked of a file: by itself, to read it, to hand back a record
-abbrev pub asksOfFile : List ℕ → ℕ → ℕ → List ℕ → ℕ → ℕ → List Asks
-asksOfFile f cabinet line catalogue room number =
-    fileAsks f cabinet line catalogue ∷ readAsks f cabinet line catalogue room ∷ recordAsks f cabinet line catalogue number ∷ []
+abbrev pub asks_of_file : List ℕ → ℕ → ℕ → List ℕ → ℕ → ℕ → List Asks
+asks_of_file f cabinet line catalogue room number =
+    file_asks f cabinet line catalogue ∷ read_asks f cabinet line catalogue room ∷ record_asks f cabinet line catalogue number ∷ []
 
 -- of a file it is asked behind 1, 2, 18, 3, 4
-pub file-refused : (f : List ℕ) (cabinet line : ℕ) (catalogue : List ℕ) (room number : ℕ)
-    → NoneApplies (take 5 (fileAsks f cabinet line catalogue))
-    → tasksInRange (tasksIn f) ≡ false
-    → map (λ asks. firstOf asks) (asksOfFile f cabinet line catalogue room number) ≡ replicate 3 (Refused WrongCounts)
-file-refused f cabinet line catalogue room number clear e =
-    rw (clear .0, clear .1 .0, clear .1 .1 .0, clear .1 .1 .1 .0, clear .1 .1 .1 .1 .0, e) refl
+pub file_refused : (f : List ℕ) (cabinet line : ℕ) (catalogue : List ℕ) (room number : ℕ)
+    → NoneApplies (take 5 (file_asks f cabinet line catalogue))
+    → tasks_in_range (tasks_in f) ≡ false
+    → map (λ asks. first_of asks) (asks_of_file f cabinet line catalogue room number) ≡ replicate 3 (Refused WrongCounts)
+file_refused f cabinet line catalogue room number clear e =
+    rw (clear.0, clear.1.0, clear.1.1.0, clear.1.1.1.0, clear.1.1.1.1.0, e) refl

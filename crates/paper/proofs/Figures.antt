@@ -1,38 +1,38 @@
 -- The table of figures comes out of the definitions: document 01's that are marked P, as document 02, item 5, changes them, and ours. So does the CRC's published check value.
 -- By computation.
-use mathlib.Core.Path.{_≡_, refl}
+use mathlib.Core.Path.{◌≡◌, refl}
 use mathlib.Core.Bool.{true, false}
-use mathlib.Core.List.{List, [], _∷_, map}
-use Rattle·paper·specs.specs.Vocabulary.{every, some, listTo, lowest, sumTo, maxTo}
-use Rattle·paper·specs.specs.Numbers.{perTask, eachOnce, thresholdsHold}
-use Rattle·paper·specs.specs.Seal.{sealBit, sealBits, sealByte, sealFrom, sealOf}
-use Rattle·paper·specs.specs.Regions.{regionsHold, allRegionsHold}
-use Rattle·paper·specs.specs.Analysis.{least, before, by, load, blocks, blocking, standing, levelSum, levelOf, startSum, startOf, finishSum, finishOf, finishFrom, job, later, worst, worstFrom, response, reaches, firstReaching, worstJob, withJob, within, taskPasses, passes}
-use Rattle·paper·specs.specs.Lengths.{larger, smaller, largest, slack, tolerance, noInstant, lowestNoInstant, lowestBelowZero, leastOf, allowed, lengthOf, regionsFit, allFit}
-use Rattle·paper·specs.specs.Points.{alpha, beforeLast, hasTime, pointsPass}
-use Rattle·paper·specs.specs.Rows.{placeOf, rowAssignment, rowHolds}
-use Rattle·paper·specs.specs.Answers.{fitAnswer, pointsAnswer, verdictFor}
-use Rattle·paper·specs.specs.Figures.{Figure, Came, comesOut, figures, numbered, join, those, passingRows, points, pointWords}
-use Rattle·paper·specs.specs.declared.FitAnswer.the-variants as Fit
+use mathlib.Core.List.{List, [], ◌∷◌, map}
+use Rattle.paper.specs.Vocabulary.{every, some, list_to, lowest, sum_to, max_to}
+use Rattle.paper.specs.Numbers.{per_task, each_once, thresholds_hold}
+use Rattle.paper.specs.Seal.{seal_bit, seal_bits, seal_byte, seal_from, seal_of}
+use Rattle.paper.specs.Regions.{regions_hold, all_regions_hold}
+use Rattle.paper.specs.Analysis.{least, before, by, load, blocks, blocking, standing, level_sum, level_of, start_sum, start_of, finish_sum, finish_of, finish_from, job, later, worst, worst_from, response, reaches, first_reaching, worst_job, with_job, within, task_passes, passes}
+use Rattle.paper.specs.Lengths.{larger, smaller, largest, slack, tolerance, no_instant, lowest_no_instant, lowest_below_zero, least_of, allowed, length_of, regions_fit, all_fit}
+use Rattle.paper.specs.Points.{alpha, before_last, has_time, points_pass}
+use Rattle.paper.specs.Rows.{place_of, row_assignment, row_holds}
+use Rattle.paper.specs.Answers.{fit_answer, points_answer, verdict_for}
+use Rattle.paper.specs.Figures.{Figure, Came, comes_out, figures, numbered, join, those, passing_rows, points, point_words}
+use Rattle.paper.specs.declared.FitAnswer.TheVariants as Fit
 
-abbrev came-out : List Figure → List Came
-came-out fs = map (λ f. comesOut (f .asked)) fs
+abbrev came_out : List Figure → List Came
+came_out fs = map (λ f. comes_out f.asked) fs
 
 abbrev foretold : List Figure → List Came
-foretold fs = map (λ f. f .comes) fs
+foretold fs = map (λ f. f.comes) fs
 
 -- every figure of the table, as one statement
-pub figures-hold : came-out figures ≡ foretold figures
-unfolding every some listTo lowest sumTo maxTo perTask eachOnce thresholdsHold regionsHold allRegionsHold least before by load blocks blocking standing levelSum levelOf startSum startOf finishSum finishOf finishFrom job later worst worstFrom response reaches firstReaching worstJob withJob within taskPasses passes larger smaller largest slack tolerance noInstant lowestNoInstant lowestBelowZero leastOf allowed lengthOf regionsFit allFit alpha beforeLast hasTime pointsPass placeOf rowAssignment rowHolds numbered join those passingRows
-figures-hold = refl
+pub figures_hold : came_out figures ≡ foretold figures
+unfolding every some list_to lowest sum_to max_to per_task each_once thresholds_hold regions_hold all_regions_hold least before by load blocks blocking standing level_sum level_of start_sum start_of finish_sum finish_of finish_from job later worst worst_from response reaches first_reaching worst_job with_job within task_passes passes larger smaller largest slack tolerance no_instant lowest_no_instant lowest_below_zero least_of allowed length_of regions_fit all_fit alpha before_last has_time points_pass place_of row_assignment row_holds numbered join those passing_rows
+figures_hold = refl
 
 -- Fixed preemption points let regions be longer than the region check does: the regions of this table don't fit, and all its tasks pass.
-pub points-beyond-lengths : (fitAnswer (points 5 0 0) (pointWords 5) [] ≡ Fit.Unfit)
-    × (pointsAnswer (points 5 0 0) (pointWords 5) [] .tasks ≡ perTask 3 (λ _. verdictFor true) (verdictFor false))
-unfolding every some listTo lowest sumTo maxTo perTask eachOnce thresholdsHold regionsHold allRegionsHold before load larger smaller largest slack tolerance noInstant lowestBelowZero leastOf allowed lengthOf regionsFit allFit alpha beforeLast hasTime pointsPass
-points-beyond-lengths = (refl, refl)
+pub points_beyond_lengths : (fit_answer (points 5 0 0) (point_words 5) [] ≡ Fit.Unfit)
+    × ((points_answer (points 5 0 0) (point_words 5) []).tasks ≡ per_task 3 (λ _. verdict_for true) (verdict_for false))
+unfolding every some list_to lowest sum_to max_to per_task each_once thresholds_hold regions_hold all_regions_hold before load larger smaller largest slack tolerance no_instant lowest_below_zero least_of allowed length_of regions_fit all_fit alpha before_last has_time points_pass
+points_beyond_lengths = (refl, refl)
 
 -- CRC-16/IBM-3740 over the digits 1 to 9
-pub check-value : sealOf (0x31 ∷ 0x32 ∷ 0x33 ∷ 0x34 ∷ 0x35 ∷ 0x36 ∷ 0x37 ∷ 0x38 ∷ 0x39 ∷ []) ≡ 0x29b1
-unfolding sealBit sealBits sealByte sealFrom
-check-value = refl
+pub check_value : seal_of (0x31 ∷ 0x32 ∷ 0x33 ∷ 0x34 ∷ 0x35 ∷ 0x36 ∷ 0x37 ∷ 0x38 ∷ 0x39 ∷ []) ≡ 0x29b1
+unfolding seal_bit seal_bits seal_byte seal_from
+check_value = refl

@@ -1,25 +1,25 @@
 -- What a caller gets who asks for the first row, or from a row, and again after each row that comes, until the end: every passing row from there on, in order, each once.
-use Prim.Native.Nat.{ℕ, zero, suc, _<_, _≤_, zero-le, suc-le-suc}
-use native.Mathlib.Nat.{not-suc-le-zero, le-of-suc-le-suc}
+use Prim.Native.Nat.{ℕ, zero, suc, ◌<◌, ◌≤◌, zero-le, suc-le-suc}
+use native.Mathlib.Nat.{not-suc-le-zero, le_of_suc-le-suc}
 use native.Mathlib.Omega.{arith}
-use mathlib.Core.Path.{_≡_, refl, sym, subst}
+use mathlib.Core.Path.{◌≡◌, refl, sym, subst}
 use mathlib.Core.Bool.{true}
-use mathlib.Core.List.{List, [], _∷_}
-use mathlib.Core.Logic.{⊎-elim}
-use lib.ListN.{length, take, getD}
-use Rattle·paper·specs.specs.Numbers.{mostTasks, tasksInRange}
-use Rattle·paper·specs.specs.Analysis.{Tasks, tasksOf}
-use Rattle·paper·specs.specs.Rows.{rowSize, rowHolds, Later, Passing, Next, Ended}
-use Rattle·paper·specs.specs.Refusals.{firstOf, firstAsks}
-use Rattle·paper·specs.specs.Answers.{Lists, Says, FirstSays, NextSays}
-use Rattle·paper·specs.specs.declared.Table.{Table}
-use Rattle·paper·specs.specs.declared.Outcome.{Outcome}
-use Rattle·paper·specs.specs.declared.Outcome.the-variants.{Done, Refused}
-use Rattle·paper·specs.specs.declared.RowAnswer.the-variants as Row
-use Rattle·paper·proofs.proofs.Tests.{within}
-use Rattle·paper·proofs.proofs.Asks.{met}
-use Rattle·paper·proofs.proofs.Formed.{formed}
-use Rattle·paper·proofs.proofs.Rows.{later-irreflexive, later-transitive, later-or-same, next-one, next-or-ended}
+use mathlib.Core.List.{List, [], ◌∷◌}
+use mathlib.Core.Logic.{⊎_elim}
+use lib.ListN.{length, take, get_or}
+use Rattle.paper.specs.Numbers.{most_tasks, tasks_in_range}
+use Rattle.paper.specs.Analysis.{Tasks, tasks_of}
+use Rattle.paper.specs.Rows.{row_size, row_holds, Later, Passing, Next, Ended}
+use Rattle.paper.specs.Refusals.{first_of, first_asks}
+use Rattle.paper.specs.Answers.{Lists, Says, FirstSays, NextSays}
+use Rattle.paper.specs.declared.Table.{Table}
+use Rattle.paper.specs.declared.Outcome.{Outcome}
+use Rattle.paper.specs.declared.Outcome.TheVariants.{Done, Refused}
+use Rattle.paper.specs.declared.RowAnswer.TheVariants as Row
+use Rattle.paper.proofs.Tests.{within}
+use Rattle.paper.proofs.Asks.{met}
+use Rattle.paper.proofs.Formed.{formed}
+use Rattle.paper.proofs.Rows.{later_irreflexive, later_transitive, later_or_same, next_one, next_or_ended}
 
 -- A call answered with a row, in some buffer, and what it wrote is this row.
 pub record Gave (says : List ℕ → List ℕ → Type 0) (size : ℕ) (row : List ℕ) : Type 0 where
@@ -37,25 +37,25 @@ pub record GaveEnd (says : List ℕ → List ℕ → Type 0) : Type 0 where
 -- Asked after `given`, and again after each row that came, the listing gives these rows and then the end. Each call may have a buffer of its own.
 unfoldable pub GivesAfter : Table → List ℕ → List (List ℕ) → Type 0
 GivesAfter t given [] = GaveEnd (λ out out'. NextSays t given out out' Row.End)
-GivesAfter t given (row ∷ rows) = Gave (λ out out'. NextSays t given out out' Row.Row) (rowSize (t .n)) row × GivesAfter t row rows
+GivesAfter t given (row ∷ rows) = Gave (λ out out'. NextSays t given out out' Row.Row) (row_size t.n) row × GivesAfter t row rows
 
 -- The same, asked from the start.
 unfoldable pub Gives : Table → List (List ℕ) → Type 0
 Gives t [] = GaveEnd (λ out out'. FirstSays t out out' Row.End)
-Gives t (row ∷ rows) = Gave (λ out out'. FirstSays t out out' Row.Row) (rowSize (t .n)) row × GivesAfter t row rows
+Gives t (row ∷ rows) = Gave (λ out out'. FirstSays t out out' Row.Row) (row_size t.n) row × GivesAfter t row rows
 
 -- A row stands somewhere in a list of rows.
 pub record Among (row : List ℕ) (rows : List (List ℕ)) : Type 0 where
   pub at : ℕ
   pub inside : at < length rows
-  pub there : getD rows at [] ≡ row
+  pub there : get_or rows at [] ≡ row
 
 -- The rows of the list are exactly those that are wanted: each is wanted, each wanted row is in it, each is later than those before it, and so no row comes twice.
 pub record Whole (wanted : List ℕ → Type 0) (rows : List (List ℕ)) : Type 0 where
-  pub sound : (i : ℕ) → i < length rows → wanted (getD rows i [])
+  pub sound : (i : ℕ) → i < length rows → wanted (get_or rows i [])
   pub complete : (row : List ℕ) → wanted row → Among row rows
-  pub rising : (i j : ℕ) → i < j → j < length rows → Later (getD rows i []) (getD rows j [])
-  pub once : (i j : ℕ) → i < j → j < length rows → getD rows i [] ≡ getD rows j [] → ⊥
+  pub rising : (i j : ℕ) → i < j → j < length rows → Later (get_or rows i []) (get_or rows j [])
+  pub once : (i j : ℕ) → i < j → j < length rows → get_or rows i [] ≡ get_or rows j [] → ⊥
 
 -- Each row is the next of the one before, and after the last comes the end.
 unfoldable pub Chain : Tasks → List ℕ → List (List ℕ) → Type 0
@@ -63,122 +63,122 @@ Chain y given [] = Ended y given
 Chain y given (row ∷ rows) = Next y given row × Chain y row rows
 
 module _ (y : Tasks) where
-  chain-sound : (given : List ℕ) (rows : List (List ℕ)) → Chain y given rows → (i : ℕ) → i < length rows → Passing y (getD rows i [])
+  chain_sound : (given : List ℕ) (rows : List (List ℕ)) → Chain y given rows → (i : ℕ) → i < length rows → Passing y (get_or rows i [])
   unfolding Chain
-  chain-sound given [] h i l = absurd (not-suc-le-zero l)
-  chain-sound given (row ∷ rows) h zero l = h .0 .passing
-  chain-sound given (row ∷ rows) h (suc i) l = chain-sound row rows (h .1) i (le-of-suc-le-suc l)
+  chain_sound given [] h i l = absurd (not-suc-le-zero l)
+  chain_sound given (row ∷ rows) h zero l = h.0.passing
+  chain_sound given (row ∷ rows) h (suc i) l = chain_sound row rows h.1 i (le_of_suc-le-suc l)
 
-  chain-after : (given : List ℕ) (rows : List (List ℕ)) → Chain y given rows → (i : ℕ) → i < length rows → Later given (getD rows i [])
+  chain_after : (given : List ℕ) (rows : List (List ℕ)) → Chain y given rows → (i : ℕ) → i < length rows → Later given (get_or rows i [])
   unfolding Chain
-  chain-after given [] h i l = absurd (not-suc-le-zero l)
-  chain-after given (row ∷ rows) h zero l = h .0 .after
-  chain-after given (row ∷ rows) h (suc i) l =
-      later-transitive given row (getD rows i []) (h .0 .after) (chain-after row rows (h .1) i (le-of-suc-le-suc l))
+  chain_after given [] h i l = absurd (not-suc-le-zero l)
+  chain_after given (row ∷ rows) h zero l = h.0.after
+  chain_after given (row ∷ rows) h (suc i) l =
+      later_transitive given row (get_or rows i []) h.0.after (chain_after row rows h.1 i (le_of_suc-le-suc l))
 
-  chain-rising : (given : List ℕ) (rows : List (List ℕ)) → Chain y given rows → (i j : ℕ) → i < j → j < length rows → Later (getD rows i []) (getD rows j [])
+  chain_rising : (given : List ℕ) (rows : List (List ℕ)) → Chain y given rows → (i j : ℕ) → i < j → j < length rows → Later (get_or rows i []) (get_or rows j [])
   unfolding Chain
-  chain-rising given [] h i j a l = absurd (not-suc-le-zero l)
-  chain-rising given (row ∷ rows) h i zero a l = absurd (not-suc-le-zero a)
-  chain-rising given (row ∷ rows) h zero (suc j) a l = chain-after row rows (h .1) j (le-of-suc-le-suc l)
-  chain-rising given (row ∷ rows) h (suc i) (suc j) a l =
-      chain-rising row rows (h .1) i j (le-of-suc-le-suc a) (le-of-suc-le-suc l)
+  chain_rising given [] h i j a l = absurd (not-suc-le-zero l)
+  chain_rising given (row ∷ rows) h i zero a l = absurd (not-suc-le-zero a)
+  chain_rising given (row ∷ rows) h zero (suc j) a l = chain_after row rows h.1 j (le_of_suc-le-suc l)
+  chain_rising given (row ∷ rows) h (suc i) (suc j) a l =
+      chain_rising row rows h.1 i j (le_of_suc-le-suc a) (le_of_suc-le-suc l)
 
   further : (first row : List ℕ) (rows : List (List ℕ)) → Among row rows → Among row (first ∷ rows)
-  further first row rows a = record { at = suc (a .at); inside = suc-le-suc (a .inside); there = a .there }
+  further first row rows a = record { at = suc a.at; inside = suc-le-suc a.inside; there = a.there }
 
-  chain-complete : (given : List ℕ) (rows : List (List ℕ)) → Chain y given rows → (row : List ℕ) → Passing y row → Later given row → Among row rows
+  chain_complete : (given : List ℕ) (rows : List (List ℕ)) → Chain y given rows → (row : List ℕ) → Passing y row → Later given row → Among row rows
   unfolding Chain Ended
-  chain-complete given [] h row p l = absurd (h row p l)
-  chain-complete given (first ∷ rows) h row p l =
-      ⊎-elim (λ k. further first row rows (chain-complete first rows (h .1) row p k))
-      (λ w. ⊎-elim (λ e. record { at = 0; inside = suc-le-suc zero-le; there = e }) (λ k. absurd (h .0 .first row p l k)) w)
-      (later-or-same first row)
+  chain_complete given [] h row p l = absurd (h row p l)
+  chain_complete given (first ∷ rows) h row p l =
+      ⊎_elim (λ k. further first row rows (chain_complete first rows h.1 row p k))
+      (λ w. ⊎_elim (λ e. record { at = 0; inside = suc-le-suc zero-le; there = e }) (λ k. absurd (h.0.first row p l k)) w)
+      (later_or_same first row)
 
-  chain-whole : (given : List ℕ) (rows : List (List ℕ)) → Chain y given rows → Whole (λ row. Passing y row × Later given row) rows
-  chain-whole given rows chain = record {
-    sound = λ i l. (chain-sound given rows chain i l, chain-after given rows chain i l);
-    complete = λ row w. chain-complete given rows chain row (w .0) (w .1);
-    rising = chain-rising given rows chain;
+  chain_whole : (given : List ℕ) (rows : List (List ℕ)) → Chain y given rows → Whole (λ row. Passing y row × Later given row) rows
+  chain_whole given rows chain = record {
+    sound = λ i l. (chain_sound given rows chain i l, chain_after given rows chain i l);
+    complete = λ row w. chain_complete given rows chain row w.0 w.1;
+    rising = chain_rising given rows chain;
     once = λ i j a l e.
-        later-irreflexive (getD rows i []) (subst (λ (r : List ℕ). Later (getD rows i []) r) (sym e) (chain-rising given rows chain i j a l));
+        later_irreflexive (get_or rows i []) (subst (λ (r : List ℕ). Later (get_or rows i []) r) (sym e) (chain_rising given rows chain i j a l));
   }
 
-  chain-one : (given : List ℕ) (rows others : List (List ℕ)) → Chain y given rows → Chain y given others → rows ≡ others
+  chain_one : (given : List ℕ) (rows others : List (List ℕ)) → Chain y given rows → Chain y given others → rows ≡ others
   unfolding Chain
-  chain-one given [] [] h k = refl
-  chain-one given [] (other ∷ others) h k = absurd (next-or-ended y given other (k .0) h)
-  chain-one given (row ∷ rows) [] h k = absurd (next-or-ended y given row (h .0) k)
-  chain-one given (row ∷ rows) (other ∷ others) h k =
-      let e : other ≡ row = next-one y given other row (k .0) (h .0) in
-      let same = chain-one row rows others (h .1) (subst (λ (r : List ℕ). Chain y r others) e (k .1)) in
+  chain_one given [] [] h k = refl
+  chain_one given [] (other ∷ others) h k = absurd (next_or_ended y given other k.0 h)
+  chain_one given (row ∷ rows) [] h k = absurd (next_or_ended y given row h.0 k)
+  chain_one given (row ∷ rows) (other ∷ others) h k =
+      let e : other ≡ row = next_one y given other row k.0 h.0 in
+      let same = chain_one row rows others h.1 (subst (λ (r : List ℕ). Chain y r others) e k.1) in
       cc
 
 -- A call that answered with a row or with the end was not turned away, and what it says of the row or of the end holds.
-row-said : (o : Outcome) (y : Tasks) (given out out' : List ℕ) → Says o y given out out' Row.Row → (o ≡ Done) × Next y given (take (rowSize (y .n)) out')
+row_said : (o : Outcome) (y : Tasks) (given out out' : List ℕ) → Says o y given out out' Row.Row → (o ≡ Done) × Next y given (take (row_size y.n) out')
 unfolding Says Lists
-row-said Done y given out out' s = (refl, s .0)
-row-said (Refused r) y given out out' s = absurd (let z : _≡_ {A = ℕ} 0 1 = cc (s .0) in omega arith)
+row_said Done y given out out' s = (refl, s.0)
+row_said (Refused r) y given out out' s = absurd (let z : ◌≡◌ {A = ℕ} 0 1 = cc s.0 in omega arith)
 
-end-said : (o : Outcome) (y : Tasks) (given out out' : List ℕ) → Says o y given out out' Row.End → (o ≡ Done) × Ended y given
+end_said : (o : Outcome) (y : Tasks) (given out out' : List ℕ) → Says o y given out out' Row.End → (o ≡ Done) × Ended y given
 unfolding Says Lists
-end-said Done y given out out' s = (refl, s .0)
-end-said (Refused r) y given out out' s = absurd (let z : _≡_ {A = ℕ} 0 1 = cc (s .0) in omega arith)
+end_said Done y given out out' s = (refl, s.0)
+end_said (Refused r) y given out out' s = absurd (let z : ◌≡◌ {A = ℕ} 0 1 = cc s.0 in omega arith)
 
 -- So what the calls answered is a chain.
 module _ (t : Table) where
-  pub next-gave : (given row : List ℕ) → Gave (λ out out'. NextSays t given out out' Row.Row) (rowSize (t .n)) row → Next (tasksOf (t .records) (t .n)) given row
+  pub next_gave : (given row : List ℕ) → Gave (λ out out'. NextSays t given out out' Row.Row) (row_size t.n) row → Next (tasks_of t.records t.n) given row
   unfolding NextSays
-  next-gave given row g = rw (g .wrote) at (row-said _ _ given _ _ (g .said) .1)
+  next_gave given row g = rw g.wrote at (row_said _ _ given _ _ g.said).1
 
-  pub first-gave : (row : List ℕ) → Gave (λ out out'. FirstSays t out out' Row.Row) (rowSize (t .n)) row → Next (tasksOf (t .records) (t .n)) [] row
+  pub first_gave : (row : List ℕ) → Gave (λ out out'. FirstSays t out out' Row.Row) (row_size t.n) row → Next (tasks_of t.records t.n) [] row
   unfolding FirstSays
-  first-gave row g = rw (g .wrote) at (row-said _ _ [] _ _ (g .said) .1)
+  first_gave row g = rw g.wrote at (row_said _ _ [] _ _ g.said).1
 
-  pub after-chain : (given : List ℕ) (rows : List (List ℕ)) → GivesAfter t given rows → Chain (tasksOf (t .records) (t .n)) given rows
+  pub after_chain : (given : List ℕ) (rows : List (List ℕ)) → GivesAfter t given rows → Chain (tasks_of t.records t.n) given rows
   unfolding GivesAfter Chain NextSays
-  after-chain given [] g = end-said _ _ given _ _ (g .said) .1
-  after-chain given (row ∷ rows) g = (next-gave given row (g .0), after-chain row rows (g .1))
+  after_chain given [] g = (end_said _ _ given _ _ g.said).1
+  after_chain given (row ∷ rows) g = (next_gave given row g.0, after_chain row rows g.1)
 
-  pub start-chain : (rows : List (List ℕ)) → Gives t rows → Chain (tasksOf (t .records) (t .n)) [] rows
+  pub start_chain : (rows : List (List ℕ)) → Gives t rows → Chain (tasks_of t.records t.n) [] rows
   unfolding Gives Chain FirstSays
-  start-chain [] g = end-said _ _ [] _ _ (g .said) .1
-  start-chain (row ∷ rows) g = (first-gave row (g .0), after-chain row rows (g .1))
+  start_chain [] g = (end_said _ _ [] _ _ g.said).1
+  start_chain (row ∷ rows) g = (first_gave row g.0, after_chain row rows g.1)
 
 -- A table that is not turned away has a task, so that no row is empty:
-pub some-task : (t : Table) (room : ℕ) → firstOf (firstAsks t room) ≡ Done → 1 ≤ t .n
-some-task t room e = within 1 mostTasks (t .n) (met (tasksInRange (t .n)) _ _ e .0) .0
+pub some_task : (t : Table) (room : ℕ) → first_of (first_asks t room) ≡ Done → 1 ≤ t.n
+some_task t room e = (within 1 most_tasks t.n (met (tasks_in_range t.n) _ _ e).0).0
 
-started : (t : Table) (rows : List (List ℕ)) → Gives t rows → 1 ≤ t .n
+started : (t : Table) (rows : List (List ℕ)) → Gives t rows → 1 ≤ t.n
 unfolding Gives FirstSays
-started t [] g = some-task t _ (end-said _ _ [] _ _ (g .said) .0)
-started t (row ∷ rows) g = some-task t _ (row-said _ _ [] _ _ (g .0 .said) .0)
+started t [] g = some_task t _ (end_said _ _ [] _ _ g.said).0
+started t (row ∷ rows) g = some_task t _ (row_said _ _ [] _ _ g.0.said).0
 
 -- a well-formed row is later than one that has not begun.
-pub later-start : (n : ℕ) (row : List ℕ) → 1 ≤ n → rowHolds n row ≡ true → Later [] row
+pub later_start : (n : ℕ) (row : List ℕ) → 1 ≤ n → row_holds n row ≡ true → Later [] row
 unfolding Later
-later-start n [] l h = absurd (omega (arith, formed n [] h .size))
-later-start n (a ∷ row) l h = tt
+later_start n [] l h = absurd (omega (arith, (formed n [] h).size))
+later_start n (a ∷ row) l h = tt
 
 -- Asking from the start and again after each row gives every passing row exactly once, in order, and then the end.
-pub listing-whole : (t : Table) (rows : List (List ℕ)) → Gives t rows → Whole (Passing (tasksOf (t .records) (t .n))) rows
-listing-whole t rows g =
-    let w = chain-whole (tasksOf (t .records) (t .n)) [] rows (start-chain t rows g) in
+pub listing_whole : (t : Table) (rows : List (List ℕ)) → Gives t rows → Whole (Passing (tasks_of t.records t.n)) rows
+listing_whole t rows g =
+    let w = chain_whole (tasks_of t.records t.n) [] rows (start_chain t rows g) in
     record {
-      sound = λ i l. w .sound i l .0;
-      complete = λ row p. w .complete row (p, later-start (t .n) row (started t rows g) (p .form));
-      rising = w .rising;
-      once = w .once;
+      sound = λ i l. (w.sound i l).0;
+      complete = λ row p. w.complete row (p, later_start t.n row (started t rows g) p.form);
+      rising = w.rising;
+      once = w.once;
     }
 
 -- Asking from a row, passing or not, gives every passing row that is later than it, in the same way.
-pub listing-whole-after : (t : Table) (given : List ℕ) (rows : List (List ℕ)) → GivesAfter t given rows
-    → Whole (λ row. Passing (tasksOf (t .records) (t .n)) row × Later given row) rows
-listing-whole-after t given rows g = chain-whole _ given rows (after-chain t given rows g)
+pub listing_whole_after : (t : Table) (given : List ℕ) (rows : List (List ℕ)) → GivesAfter t given rows
+    → Whole (λ row. Passing (tasks_of t.records t.n) row × Later given row) rows
+listing_whole_after t given rows g = chain_whole _ given rows (after_chain t given rows g)
 
 -- A table has one such list, from the start and from each row.
-pub listing-one : (t : Table) (rows others : List (List ℕ)) → Gives t rows → Gives t others → rows ≡ others
-listing-one t rows others g h = chain-one _ [] rows others (start-chain t rows g) (start-chain t others h)
+pub listing_one : (t : Table) (rows others : List (List ℕ)) → Gives t rows → Gives t others → rows ≡ others
+listing_one t rows others g h = chain_one _ [] rows others (start_chain t rows g) (start_chain t others h)
 
-pub listing-one-after : (t : Table) (given : List ℕ) (rows others : List (List ℕ)) → GivesAfter t given rows → GivesAfter t given others → rows ≡ others
-listing-one-after t given rows others g h = chain-one _ given rows others (after-chain t given rows g) (after-chain t given others h)
+pub listing_one_after : (t : Table) (given : List ℕ) (rows others : List (List ℕ)) → GivesAfter t given rows → GivesAfter t given others → rows ≡ others
+listing_one_after t given rows others g h = chain_one _ given rows others (after_chain t given rows g) (after_chain t given others h)

@@ -1,30 +1,30 @@
 -- Response times by the paper's own words: R is the largest of the signed differences F + J(i) − k·T(i), and the job that is named is the first that reaches it; R ≤ D says of each job that F + J(i) ≤ k·T(i) + D.
-use Prim.Native.Nat.{ℕ, zero, suc, _+_, _-_, _*_, _≤_, _<_, zero-le, max}
-use mathlib.Core.Path.{_≡_, refl, ap, ap₂, sym, subst, _∙_}
+use Prim.Native.Nat.{ℕ, zero, suc, ◌+◌, ◌-◌, ◌*◌, ◌≤◌, ◌<◌, zero-le, max}
+use mathlib.Core.Path.{◌≡◌, refl, ap, ap₂, sym, subst, ◌∙◌}
 use mathlib.Core.Bool.{Bool, true, false, true≢false, cond}
-use mathlib.Core.Logic.{⊎-elim, _⊎_, inl, inr, _↔_}
-use native.Mathlib.Decide.{decLe}
+use mathlib.Core.Logic.{⊎_elim, ◌⊎◌, inl, inr, ◌↔◌}
+use native.Mathlib.Decide.{dec_le}
 use native.Mathlib.Omega.{arith}
-use native.Mathlib.Nat.{eq-or-lt-of-le, le-div-iff-mul-le, one-mul, zero-mul}
+use native.Mathlib.Nat.{eq-or-lt_of_le, le-div_iff_mul-le, one-mul, zero-mul}
 use lib.Dec.{leb, ltb, leb→le, le→leb, ltb→lt, lt→ltb}
-use lib.IntN.{ℤ, pos, negsuc, subℕ, pos-ne-negsuc}
-use lib.Signed.{_≤ℤ_, _<ℤ_}
-use borrow.Author.Tests.{le-leb, leb-true, ltb-true, ltb-false, le-ltb, eqb-true, eq-eqb, ne-eqb}
-use Rattle·paper·specs.specs.Analysis.{Tasks, Standing, before, levelOf, startOf, finishOf, finishFrom, job, later, worst, worstFrom, response, reaches, firstReaching, worstJob, withJob, within}
-use Rattle·paper·specs.specs.declared.Response.{Response}
-use Rattle·paper·specs.specs.declared.Time.{Time}
-use Rattle·paper·specs.specs.declared.Time.the-variants.{At, Beyond}
-use Rattle·paper·proofs.proofs.Searched.{searched}
-use Rattle·paper·proofs.proofs.Extremes.{lowest-found, lowest-either}
+use lib.IntN.{ℤ, pos, negsuc, sub_ℕ, pos-ne-negsuc}
+use lib.Signed.{◌≤ℤ◌, ◌<ℤ◌}
+use borrow.Author.Tests.{le-leb, leb-true, ltb-true, ltb-false, le-ltb, eqb-true, eq-eqb, ne_eqb}
+use Rattle.paper.specs.Analysis.{Tasks, Standing, before, level_of, start_of, finish_of, finish_from, job, later, worst, worst_from, response, reaches, first_reaching, worst_job, with_job, within}
+use Rattle.paper.specs.declared.Response.{Response}
+use Rattle.paper.specs.declared.Time.{Time}
+use Rattle.paper.specs.declared.Time.TheVariants.{At, Beyond}
+use Rattle.paper.proofs.Searched.{searched}
+use Rattle.paper.proofs.Extremes.{lowest_found, lowest_either}
 
 -- F + J(i) − k·T(i), a signed number
 abbrev pub difference : Tasks → ℕ → ℕ → ℕ → ℤ
-difference y i k f = subℕ (f + y .j i) (k * y .t i)
+difference y i k f = sub_ℕ (f + y.j i) (k * y.t i)
 
 -- L exists, every job of the active period has an F, no signed difference lies above r, that of job k, one of them, is r, and that of each job before it lies below r
 pub record Largest (y : Tasks) (s : Standing) (i r k : ℕ) : Type 0 where
   pub l : ℕ
-  pub level : levelOf y s ≡ At l
+  pub level : level_of y s ≡ At l
   pub ends : (q : ℕ) → q < before y l i → (g : ℕ) × (job y s i q ≡ At g)
   pub most : (q g : ℕ) → q < before y l i → job y s i q ≡ At g → difference y i q g ≤ℤ pos r
   pub among : k < before y l i
@@ -37,66 +37,66 @@ pub record Largest (y : Tasks) (s : Standing) (i r k : ℕ) : Type 0 where
 pub record InTime (y : Tasks) (s : Standing) (i d k : ℕ) : Type 0 where
   pub f : ℕ
   pub finish : job y s i k ≡ At f
-  pub ok : f + y .j i ≤ k * y .t i + d
+  pub ok : f + y.j i ≤ k * y.t i + d
 
 -- L exists, and every job of the active period is in time
 pub record AllInTime (y : Tasks) (s : Standing) (i d : ℕ) : Type 0 where
   pub l : ℕ
-  pub level : levelOf y s ≡ At l
+  pub level : level_of y s ≡ At l
   pub jobs : (k : ℕ) → k < before y l i → InTime y s i d k
 
 -- L and every F are above 0
-pub level-positive : (y : Tasks) (s : Standing) (l : ℕ) → levelOf y s ≡ At l → 1 ≤ l
-unfolding levelOf
-level-positive y s l e = searched _ 1 _ l e .low
+pub level_positive : (y : Tasks) (s : Standing) (l : ℕ) → level_of y s ≡ At l → 1 ≤ l
+unfolding level_of
+level_positive y s l e = (searched _ 1 _ l e).low
 
-finish-positive : (y : Tasks) (s : Standing) (i k f : ℕ) → job y s i k ≡ At f → 1 ≤ f
-unfolding job finishFrom finishOf
-finish-positive y s i k f e = go (startOf y s i k) e
+finish_positive : (y : Tasks) (s : Standing) (i k f : ℕ) → job y s i k ≡ At f → 1 ≤ f
+unfolding job finish_from finish_of
+finish_positive y s i k f e = go (start_of y s i k) e
   where
-    go : (start : Time) → finishFrom y s i start ≡ At f → 1 ≤ f
-    go (At start) h = omega (arith, searched _ (start + 1) _ f h .low)
-    go Beyond h = let z : _≡_ {A = ℕ} 0 1 = cc in absurd (omega arith)
+    go : (start : Time) → finish_from y s i start ≡ At f → 1 ≤ f
+    go (At start) h = omega (arith, (searched _ (start + 1) _ f h).low)
+    go Beyond h = let z : ◌≡◌ {A = ℕ} 0 1 = cc in absurd (omega arith)
 
 -- there is a first job
-pub first-job : (y : Tasks) (i l : ℕ) → 1 ≤ y .t i → 1 ≤ l → 0 < before y l i
+pub first_job : (y : Tasks) (i l : ℕ) → 1 ≤ y.t i → 1 ≤ l → 0 < before y l i
 unfolding before
-first-job y i l ht hl = le-div-iff-mul-le ht .1 (rw one-mul (omega arith))
+first_job y i l ht hl = (le-div_iff_mul-le ht).1 (rw one-mul (omega arith))
 
 -- signed and truncated differences
-signed-le : (a b r : ℕ) → a - b ≤ r → subℕ a b ≤ℤ pos r
-signed-le a b r h = go (ltb a b)
+signed_le : (a b r : ℕ) → a - b ≤ r → sub_ℕ a b ≤ℤ pos r
+signed_le a b r h = go (ltb a b)
   where
     go : (v : Bool) → cond v (negsuc (b - suc a)) (pos (a - b)) ≤ℤ pos r
     go true = record { le = tt }
     go false = record { le = le→leb _ _ h }
 
-le-signed : (a b r : ℕ) → subℕ a b ≤ℤ pos r → a - b ≤ r
-le-signed a b r h = go (ltb a b) refl h
+le_signed : (a b r : ℕ) → sub_ℕ a b ≤ℤ pos r → a - b ≤ r
+le_signed a b r h = go (ltb a b) refl h
   where
     go : (v : Bool) → ltb a b ≡ v → cond v (negsuc (b - suc a)) (pos (a - b)) ≤ℤ pos r → a - b ≤ r
     go true e w = omega (arith, ltb-true a b e)
-    go false e w = leb→le _ _ (w .le)
+    go false e w = leb→le _ _ w.le
 
-signed-lt : (a b r : ℕ) → a - b < r → subℕ a b <ℤ pos r
-signed-lt a b r h = go (ltb a b)
+signed_lt : (a b r : ℕ) → a - b < r → sub_ℕ a b <ℤ pos r
+signed_lt a b r h = go (ltb a b)
   where
     go : (v : Bool) → cond v (negsuc (b - suc a)) (pos (a - b)) <ℤ pos r
     go true = record { lt = tt }
     go false = record { lt = lt→ltb _ _ h }
 
-lt-signed : (a b r : ℕ) → 1 ≤ r → subℕ a b <ℤ pos r → a - b < r
-lt-signed a b r p h = go (ltb a b) refl h
+lt_signed : (a b r : ℕ) → 1 ≤ r → sub_ℕ a b <ℤ pos r → a - b < r
+lt_signed a b r p h = go (ltb a b) refl h
   where
     go : (v : Bool) → ltb a b ≡ v → cond v (negsuc (b - suc a)) (pos (a - b)) <ℤ pos r → a - b < r
     go true e w = omega (arith, ltb-true a b e)
-    go false e w = ltb→lt _ _ (w .lt)
+    go false e w = ltb→lt _ _ w.lt
 
-signed-is : (a b r : ℕ) → 1 ≤ r → a - b ≡ r → subℕ a b ≡ pos r
-signed-is a b r h e = rw (le-ltb a b (omega arith), e)
+signed_is : (a b r : ℕ) → 1 ≤ r → a - b ≡ r → sub_ℕ a b ≡ pos r
+signed_is a b r h e = rw (le-ltb a b (omega arith), e)
 
-is-signed : (a b r : ℕ) → subℕ a b ≡ pos r → a - b ≡ r
-is-signed a b r e = go (ltb a b) e
+is_signed : (a b r : ℕ) → sub_ℕ a b ≡ pos r → a - b ≡ r
+is_signed a b r e = go (ltb a b) e
   where
     go : (v : Bool) → cond v (negsuc (b - suc a)) (pos (a - b)) ≡ pos r → a - b ≡ r
     go true w = absurd (pos-ne-negsuc r (b - suc a) (sym w))
@@ -105,36 +105,36 @@ is-signed a b r e = go (ltb a b) e
 module _ (y : Tasks) (s : Standing) (i : ℕ) where
   -- of the worst over m jobs: every job ends, none is later, and one reaches it unless it is 0
   record Over (m r : ℕ) : Type 0 where
-    pub ends : (k : ℕ) → k < m → (f : ℕ) × (job y s i k ≡ At f) × (f + y .j i - k * y .t i ≤ r)
-    pub reached : (r ≡ 0) ⊎ ((k : ℕ) × (k < m) × (f : ℕ) × (job y s i k ≡ At f) × (f + y .j i - k * y .t i ≡ r))
+    pub ends : (k : ℕ) → k < m → (f : ℕ) × (job y s i k ≡ At f) × (f + y.j i - k * y.t i ≤ r)
+    pub reached : (r ≡ 0) ⊎ ((k : ℕ) × (k < m) × (f : ℕ) × (job y s i k ≡ At f) × (f + y.j i - k * y.t i ≡ r))
 
-  over-more : (m r : ℕ) (f : ℕ) → Over m r → job y s i m ≡ At f → Over (suc m) (max r (f + y .j i - m * y .t i))
-  over-more m r f w e =
+  over_more : (m r : ℕ) (f : ℕ) → Over m r → job y s i m ≡ At f → Over (suc m) (max r (f + y.j i - m * y.t i))
+  over_more m r f w e =
       record {
         ends =
             λ k l.
             let h : k ≤ m = omega arith in
-            ⊎-elim
+            ⊎_elim
             (λ q. (f, rw q e, rw q (omega arith)))
-            (λ q. let v = w .ends k q in (v .0, v .1, omega (arith, v .2)))
-            (eq-or-lt-of-le h);
-        reached = go (decLe r (f + y .j i - m * y .t i)) (w .reached);
+            (λ q. let v = w.ends k q in (v.0, v.1, omega (arith, v.2)))
+            (eq-or-lt_of_le h);
+        reached = go (dec_le r (f + y.j i - m * y.t i)) w.reached;
       }
     where
-      go : Dec (r ≤ f + y .j i - m * y .t i) → (r ≡ 0) ⊎ ((k : ℕ) × (k < m) × (f : ℕ) × (job y s i k ≡ At f) × (f + y .j i - k * y .t i ≡ r)) → (max r (f + y .j i - m * y .t i) ≡ 0) ⊎ ((k : ℕ) × (k < suc m) × (g : ℕ) × (job y s i k ≡ At g) × (g + y .j i - k * y .t i ≡ max r (f + y .j i - m * y .t i)))
+      go : Dec (r ≤ f + y.j i - m * y.t i) → (r ≡ 0) ⊎ ((k : ℕ) × (k < m) × (f : ℕ) × (job y s i k ≡ At f) × (f + y.j i - k * y.t i ≡ r)) → (max r (f + y.j i - m * y.t i) ≡ 0) ⊎ ((k : ℕ) × (k < suc m) × (g : ℕ) × (job y s i k ≡ At g) × (g + y.j i - k * y.t i ≡ max r (f + y.j i - m * y.t i)))
       go (yes h) v = inr (m, omega arith, f, e, omega arith)
       go (no h) (inl z) = absurd (omega arith)
-      go (no h) (inr v) = inr (v .0, omega (arith, v .1), v .2, v .3, omega (arith, v .4))
+      go (no h) (inr v) = inr (v.0, omega (arith, v.1), v.2, v.3, omega (arith, v.4))
 
   over : (m r : ℕ) → worst y s i m ≡ At r → Over m r
   unfolding worst later
   over zero r e = record { ends = λ k l. absurd (omega arith); reached = inl (cc) }
   over (suc m) r e = go (worst y s i m) (job y s i m) refl (over m) e
     where
-      go : (w v : Time) → job y s i m ≡ v → ((q : ℕ) → w ≡ At q → Over m q) → later w v (y .j i) (m * y .t i) ≡ At r → Over (suc m) r
-      go (At q) (At f) ef o h = let z : max q (f + y .j i - m * y .t i) ≡ r = cc in rw z at (over-more m q f (o q refl) ef)
-      go (At q) Beyond ef o h = let z : _≡_ {A = ℕ} 0 1 = cc in absurd (omega arith)
-      go Beyond v ef o h = let z : _≡_ {A = ℕ} 0 1 = cc in absurd (omega arith)
+      go : (w v : Time) → job y s i m ≡ v → ((q : ℕ) → w ≡ At q → Over m q) → later w v (y.j i) (m * y.t i) ≡ At r → Over (suc m) r
+      go (At q) (At f) ef o h = let z : max q (f + y.j i - m * y.t i) ≡ r = cc in rw z at (over_more m q f (o q refl) ef)
+      go (At q) Beyond ef o h = let z : ◌≡◌ {A = ℕ} 0 1 = cc in absurd (omega arith)
+      go Beyond v ef o h = let z : ◌≡◌ {A = ℕ} 0 1 = cc in absurd (omega arith)
 
   -- where every job ends there is a worst
   ended : (m : ℕ) → ((k : ℕ) → k < m → (f : ℕ) × (job y s i k ≡ At f)) → (r : ℕ) × (worst y s i m ≡ At r)
@@ -143,182 +143,182 @@ module _ (y : Tasks) (s : Standing) (i : ℕ) where
   ended (suc m) h =
       let w = ended m (λ k l. h k (omega arith)) in
       let f = h m (omega arith) in
-      (max (w .0) (f .0 + y .j i - m * y .t i), rw (w .1, f .1))
+      (max w.0 (f.0 + y.j i - m * y.t i), rw (w.1, f.1))
 
   -- job 0 is among them, and so the worst is above 0
-  worst-positive : (m r : ℕ) → 0 < m → worst y s i m ≡ At r → 1 ≤ r
-  worst-positive m r h e =
-      let v = over m r e .ends 0 h in
-      omega (arith, v .2, finish-positive y s i 0 (v .0) (v .1), zero-mul (y .t i))
+  worst_positive : (m r : ℕ) → 0 < m → worst y s i m ≡ At r → 1 ≤ r
+  worst_positive m r h e =
+      let v = (over m r e).ends 0 h in
+      omega (arith, v.2, finish_positive y s i 0 v.0 v.1, zero-mul (y.t i))
 
   -- job k of those below m reaches r, and none before it does
   record Reached (m r k : ℕ) : Type 0 where
     pub among : k < m
     pub f : ℕ
     pub finish : job y s i k ≡ At f
-    pub here : f + y .j i - k * y .t i ≡ r
-    pub first : (q g : ℕ) → q < k → job y s i q ≡ At g → g + y .j i - q * y .t i ≡ r → ⊥
+    pub here : f + y.j i - k * y.t i ≡ r
+    pub first : (q g : ℕ) → q < k → job y s i q ≡ At g → g + y.j i - q * y.t i ≡ r → ⊥
 
-  reached-is : (m r k : ℕ) → Reached m r k → firstReaching y s i m (At r) ≡ k
-  unfolding firstReaching reaches
-  reached-is m r k w =
+  reached_is : (m r k : ℕ) → Reached m r k → first_reaching y s i m (At r) ≡ k
+  unfolding first_reaching reaches
+  reached_is m r k w =
       let z : suc k - 1 ≡ k = omega arith in
-      ap (λ (x : ℕ). x - 1) (lowest-found _ m k (w .among) (rw (w .finish) (eq-eqb _ _ (w .here))) (λ q l. none q l (job y s i q) refl)) ∙ z
+      ap (λ (x : ℕ). x - 1) (lowest_found _ m k w.among (rw w.finish (eq-eqb _ _ w.here)) (λ q l. none q l (job y s i q) refl)) ∙ z
     where
-      none : (q : ℕ) → q < k → (v : Time) → job y s i q ≡ v → reaches v (y .j i) (q * y .t i) r ≡ false
-      none q l (At g) e = ne-eqb _ _ (w .first q g l e)
+      none : (q : ℕ) → q < k → (v : Time) → job y s i q ≡ v → reaches v (y.j i) (q * y.t i) r ≡ false
+      none q l (At g) e = ne_eqb _ _ (w.first q g l e)
       none q l Beyond e = refl
 
   -- of the jobs that reach the worst of m there is a first
-  some-reached : (m r : ℕ) → 0 < m → worst y s i m ≡ At r → (k : ℕ) × Reached m r k
+  some_reached : (m r : ℕ) → 0 < m → worst y s i m ≡ At r → (k : ℕ) × Reached m r k
   unfolding reaches
-  some-reached m r h e = ⊎-elim (λ none. absurd (nobody none)) (λ v. (v .0, made v)) (lowest-either test m)
+  some_reached m r h e = ⊎_elim (λ none. absurd (nobody none)) (λ v. (v.0, made v)) (lowest_either test m)
     where
       test : ℕ → Bool
-      test k = reaches (job y s i k) (y .j i) (k * y .t i) r
+      test k = reaches (job y s i k) (y.j i) (k * y.t i) r
 
       nobody : ((k : ℕ) → k < m → test k ≡ false) → ⊥
       nobody none =
-          ⊎-elim
-          (λ z. omega (arith, worst-positive m r h e))
-          (λ v. true≢false (sym (rw (v .3) (eq-eqb _ _ (v .4))) ∙ none (v .0) (v .1)))
-          (over m r e .reached)
+          ⊎_elim
+          (λ z. omega (arith, worst_positive m r h e))
+          (λ v. true≢false (sym (rw v.3 (eq-eqb _ _ v.4)) ∙ none v.0 v.1))
+          (over m r e).reached
 
       here : (v : Time) (jitter released : ℕ) → reaches v jitter released r ≡ true → (f : ℕ) × (v ≡ At f) × (f + jitter - released ≡ r)
       here (At f) jitter released t = (f, refl, eqb-true _ _ t)
       here Beyond jitter released t = absurd (true≢false (sym t))
 
-      made : (v : (k : ℕ) × (k < m) × (test k ≡ true) × ((j : ℕ) → j < k → test j ≡ false)) → Reached m r (v .0)
+      made : (v : (k : ℕ) × (k < m) × (test k ≡ true) × ((j : ℕ) → j < k → test j ≡ false)) → Reached m r v.0
       made v =
-          let u = here (job y s i (v .0)) (y .j i) (v .0 * y .t i) (v .2) in
+          let u = here (job y s i v.0) (y.j i) (v.0 * y.t i) v.2 in
           record {
-            among = v .1;
-            f = u .0;
-            finish = u .1;
-            here = u .2;
-            first = λ q g l eg z. true≢false (sym (rw eg (eq-eqb _ _ z)) ∙ v .3 q l);
+            among = v.1;
+            f = u.0;
+            finish = u.1;
+            here = u.2;
+            first = λ q g l eg z. true≢false (sym (rw eg (eq-eqb _ _ z)) ∙ v.3 q l);
           }
 
-  first-reached : (m r : ℕ) → 0 < m → worst y s i m ≡ At r → Reached m r (firstReaching y s i m (At r))
-  first-reached m r h e =
-      let w = some-reached m r h e in
-      subst (Reached m r) (sym (reached-is m r (w .0) (w .1))) (w .1)
+  first_reached : (m r : ℕ) → 0 < m → worst y s i m ≡ At r → Reached m r (first_reaching y s i m (At r))
+  first_reached m r h e =
+      let w = some_reached m r h e in
+      subst (Reached m r) (sym (reached_is m r w.0 w.1)) w.1
 
   -- one job more: it takes the place of the first that reached the worst only where it is worse
-  pub first-more : (m q f : ℕ) → worst y s i m ≡ At q → job y s i m ≡ At f
-      → cond (ltb q (f + y .j i - m * y .t i)) m (firstReaching y s i m (At q)) ≡ firstReaching y s i (suc m) (At (max q (f + y .j i - m * y .t i)))
-  first-more m q f e ef = go (ltb q (f + y .j i - m * y .t i)) refl
+  pub first_more : (m q f : ℕ) → worst y s i m ≡ At q → job y s i m ≡ At f
+      → cond (ltb q (f + y.j i - m * y.t i)) m (first_reaching y s i m (At q)) ≡ first_reaching y s i (suc m) (At (max q (f + y.j i - m * y.t i)))
+  first_more m q f e ef = go (ltb q (f + y.j i - m * y.t i)) refl
     where
-      started : (ltb q (f + y .j i - m * y .t i) ≡ false) → 0 < m
+      started : (ltb q (f + y.j i - m * y.t i) ≡ false) → 0 < m
       started t = any m refl
         where
           any : (n : ℕ) → m ≡ n → 0 < n
           any zero z =
-              let l = ltb-false q (f + y .j i - m * y .t i) t in
-              let p = finish-positive y s i m f ef in
-              let v : m * y .t i ≡ 0 = ap (λ (x : ℕ). x * y .t i) z ∙ zero-mul (y .t i) in
-              absurd (⊎-elim (λ (u : q ≡ 0). omega arith) (λ u. omega (arith, u .1)) (over m q e .reached))
+              let l = ltb-false q (f + y.j i - m * y.t i) t in
+              let p = finish_positive y s i m f ef in
+              let v : m * y.t i ≡ 0 = ap (λ (x : ℕ). x * y.t i) z ∙ zero-mul (y.t i) in
+              absurd (⊎_elim (λ (u : q ≡ 0). omega arith) (λ u. omega (arith, u.1)) (over m q e).reached)
           any (suc n) z = omega arith
 
-      go : (v : Bool) → ltb q (f + y .j i - m * y .t i) ≡ v → cond v m (firstReaching y s i m (At q)) ≡ firstReaching y s i (suc m) (At (max q (f + y .j i - m * y .t i)))
+      go : (v : Bool) → ltb q (f + y.j i - m * y.t i) ≡ v → cond v m (first_reaching y s i m (At q)) ≡ first_reaching y s i (suc m) (At (max q (f + y.j i - m * y.t i)))
       go true t =
-          let l = ltb-true q (f + y .j i - m * y .t i) t in
-          sym (reached-is (suc m) (max q (f + y .j i - m * y .t i)) m (record {
+          let l = ltb-true q (f + y.j i - m * y.t i) t in
+          sym (reached_is (suc m) (max q (f + y.j i - m * y.t i)) m (record {
             among = omega arith;
             f = f;
             finish = ef;
             here = omega arith;
-            first = λ k g h eg z. let u = over m q e .ends k h in let p : u .0 ≡ g = cc (u .1) in omega (arith, rw p at (u .2));
+            first = λ k g h eg z. let u = (over m q e).ends k h in let p : u.0 ≡ g = cc u.1 in omega (arith, rw p at u.2);
           }))
       go false t =
-          let l = ltb-false q (f + y .j i - m * y .t i) t in
-          let w = first-reached m q (started t) e in
-          let z : max q (f + y .j i - m * y .t i) ≡ q = omega arith in
-          sym (ap (λ r. firstReaching y s i (suc m) (At r)) z ∙ reached-is (suc m) q _ (record {
-            among = omega (arith, w .among);
-            f = w .f;
-            finish = w .finish;
-            here = w .here;
-            first = w .first;
+          let l = ltb-false q (f + y.j i - m * y.t i) t in
+          let w = first_reached m q (started t) e in
+          let z : max q (f + y.j i - m * y.t i) ≡ q = omega arith in
+          sym (ap (λ r. first_reaching y s i (suc m) (At r)) z ∙ reached_is (suc m) q _ (record {
+            among = omega (arith, w.among);
+            f = w.f;
+            finish = w.finish;
+            here = w.here;
+            first = w.first;
           }))
 
   -- R with its job, where L and R are known
-  with-job-at : (l r : ℕ) → levelOf y s ≡ At l → response y s i ≡ At r → withJob y s i ≡ record { time = At r; job = firstReaching y s i (before y l i) (At r) }
-  unfolding withJob worstJob
-  with-job-at l r el er = rw (el, er)
+  with_job_at : (l r : ℕ) → level_of y s ≡ At l → response y s i ≡ At r → with_job y s i ≡ record { time = At r; job = first_reaching y s i (before y l i) (At r) }
+  unfolding with_job worst_job
+  with_job_at l r el er = rw (el, er)
 
-  time-is : (r k : ℕ) → withJob y s i ≡ record { time = At r; job = k } → response y s i ≡ At r
-  unfolding withJob
-  time-is r k e = ap (λ (v : Response). v .time) e
+  time_is : (r k : ℕ) → with_job y s i ≡ record { time = At r; job = k } → response y s i ≡ At r
+  unfolding with_job
+  time_is r k e = ap (λ (v : Response). v.time) e
 
-  worst-at : (l : ℕ) → levelOf y s ≡ At l → response y s i ≡ worst y s i (before y l i)
-  unfolding response worstFrom
+  worst-at : (l : ℕ) → level_of y s ≡ At l → response y s i ≡ worst y s i (before y l i)
+  unfolding response worst_from
   worst-at l el = rw el
 
-  level-there : (r : ℕ) → response y s i ≡ At r → levelOf y s ≡ Beyond → ⊥
-  unfolding response worstFrom
-  level-there r e el = let z : _≡_ {A = ℕ} 0 1 = cc in omega arith
+  level_there : (r : ℕ) → response y s i ≡ At r → level_of y s ≡ Beyond → ⊥
+  unfolding response worst_from
+  level_there r e el = let z : ◌≡◌ {A = ℕ} 0 1 = cc in omega arith
 
   -- R is the largest signed difference F + J(i) − k·T(i) over the jobs k below ceil((L + J(i))/T(i)), and the job beside it the first whose difference it is
-  pub response-largest : 1 ≤ y .t i → (r k : ℕ) → (withJob y s i ≡ record { time = At r; job = k }) ↔ Largest y s i r k
-  response-largest ht r k = (λ e. says (levelOf y s) refl e, gives)
+  pub response_largest : 1 ≤ y.t i → (r k : ℕ) → (with_job y s i ≡ record { time = At r; job = k }) ↔ Largest y s i r k
+  response_largest ht r k = (λ e. says (level_of y s) refl e, gives)
     where
-      says : (v : Time) → levelOf y s ≡ v → withJob y s i ≡ record { time = At r; job = k } → Largest y s i r k
+      says : (v : Time) → level_of y s ≡ v → with_job y s i ≡ record { time = At r; job = k } → Largest y s i r k
       says (At l) el e =
-          let er = time-is r k e in
+          let er = time_is r k e in
           let ew : worst y s i (before y l i) ≡ At r = sym (worst-at l el) ∙ er in
-          let some = first-job y i l ht (level-positive y s l el) in
+          let some = first_job y i l ht (level_positive y s l el) in
           let w = over (before y l i) r ew in
-          let p = worst-positive (before y l i) r some ew in
-          let z : firstReaching y s i (before y l i) (At r) ≡ k = ap (λ (v : Response). v .job) (sym (with-job-at l r el er) ∙ e) in
-          let u = subst (Reached (before y l i) r) z (first-reached (before y l i) r some ew) in
+          let p = worst_positive (before y l i) r some ew in
+          let z : first_reaching y s i (before y l i) (At r) ≡ k = ap (λ (v : Response). v.job) (sym (with_job_at l r el er) ∙ e) in
+          let u = subst (Reached (before y l i) r) z (first_reached (before y l i) r some ew) in
           record {
             l = l;
             level = el;
-            ends = λ q h. let v = w .ends q h in (v .0, v .1);
-            most = λ q g h eg. let v = w .ends q h in let o : v .0 ≡ g = cc (v .1) in signed-le (g + y .j i) (q * y .t i) r (rw o at (v .2));
-            among = u .among;
-            f = u .f;
-            finish = u .finish;
-            reached = signed-is (u .f + y .j i) (k * y .t i) r p (u .here);
+            ends = λ q h. let v = w.ends q h in (v.0, v.1);
+            most = λ q g h eg. let v = w.ends q h in let o : v.0 ≡ g = cc v.1 in signed_le (g + y.j i) (q * y.t i) r (rw o at v.2);
+            among = u.among;
+            f = u.f;
+            finish = u.finish;
+            reached = signed_is (u.f + y.j i) (k * y.t i) r p u.here;
             first =
                 λ q g h eg.
-                let v = w .ends q (omega (arith, u .among)) in
-                let o : v .0 ≡ g = cc (v .1) in
-                let below : g + y .j i - q * y .t i ≤ r = rw o at (v .2) in
-                signed-lt (g + y .j i) (q * y .t i) r (omega (arith, u .first q g h eg));
+                let v = w.ends q (omega (arith, u.among)) in
+                let o : v.0 ≡ g = cc v.1 in
+                let below : g + y.j i - q * y.t i ≤ r = rw o at v.2 in
+                signed_lt (g + y.j i) (q * y.t i) r (omega (arith, u.first q g h eg));
           }
-      says Beyond el e = absurd (level-there r (time-is r k e) el)
+      says Beyond el e = absurd (level_there r (time_is r k e) el)
 
-      gives : Largest y s i r k → withJob y s i ≡ record { time = At r; job = k }
+      gives : Largest y s i r k → with_job y s i ≡ record { time = At r; job = k }
       gives g =
-          let m = before y (g .l) i in
-          let e = ended m (g .ends) in
-          let w = over m (e .0) (e .1) in
-          let u = w .ends k (g .among) in
-          let q : u .0 ≡ g .f = cc (u .1, g .finish) in
-          let low : r ≤ e .0 = omega (arith, rw q at (u .2), is-signed (g .f + y .j i) (k * y .t i) r (g .reached)) in
-          let high : e .0 ≤ r =
-          ⊎-elim (λ z. omega arith) (λ z. omega (arith, z .4, le-signed (z .2 + y .j i) (z .0 * y .t i) r (g .most (z .0) (z .2) (z .1) (z .3)))) (w .reached) in
-          let z : e .0 ≡ r = omega arith in
-          let ew : worst y s i m ≡ At r = e .1 ∙ ap At z in
-          let p = worst-positive m r (omega (arith, g .among)) ew in
-          with-job-at (g .l) r (g .level) (worst-at (g .l) (g .level) ∙ ew)
-          ∙ ap (λ j. record { time = At r; job = j }) (reached-is m r k (record {
-            among = g .among;
-            f = g .f;
-            finish = g .finish;
-            here = is-signed (g .f + y .j i) (k * y .t i) r (g .reached);
-            first = λ q v h ev x. omega (arith, lt-signed (v + y .j i) (q * y .t i) r p (g .first q v h ev));
+          let m = before y g.l i in
+          let e = ended m g.ends in
+          let w = over m e.0 e.1 in
+          let u = w.ends k g.among in
+          let q : u.0 ≡ g.f = cc (u.1, g.finish) in
+          let low : r ≤ e.0 = omega (arith, rw q at u.2, is_signed (g.f + y.j i) (k * y.t i) r g.reached) in
+          let high : e.0 ≤ r =
+          ⊎_elim (λ z. omega arith) (λ z. omega (arith, z.4, le_signed (z.2 + y.j i) (z.0 * y.t i) r (g.most z.0 z.2 z.1 z.3))) w.reached in
+          let z : e.0 ≡ r = omega arith in
+          let ew : worst y s i m ≡ At r = e.1 ∙ ap At z in
+          let p = worst_positive m r (omega (arith, g.among)) ew in
+          with_job_at g.l r g.level (worst-at g.l g.level ∙ ew)
+          ∙ ap (λ j. record { time = At r; job = j }) (reached_is m r k (record {
+            among = g.among;
+            f = g.f;
+            finish = g.finish;
+            here = is_signed (g.f + y.j i) (k * y.t i) r g.reached;
+            first = λ q v h ev x. omega (arith, lt_signed (v + y.j i) (q * y.t i) r p (g.first q v h ev));
           }))
 
   -- beside "beyond" the job is 0
-  pub beyond-job : response y s i ≡ Beyond → withJob y s i ≡ record { time = Beyond; job = 0 }
-  unfolding withJob worstJob firstReaching
-  beyond-job e = ap₂ (λ t j. record { time = t; job = j }) e (none (levelOf y s) (response y s i) e)
+  pub beyond_job : response y s i ≡ Beyond → with_job y s i ≡ record { time = Beyond; job = 0 }
+  unfolding with_job worst_job first_reaching
+  beyond_job e = ap₂ (λ t j. record { time = t; job = j }) e (none (level_of y s) (response y s i) e)
     where
-      none : (l v : Time) → v ≡ Beyond → worstJob y s i l v ≡ 0
-      none (At l) (At r) h = let z : _≡_ {A = ℕ} 0 1 = cc in absurd (omega arith)
+      none : (l v : Time) → v ≡ Beyond → worst_job y s i l v ≡ 0
+      none (At l) (At r) h = let z : ◌≡◌ {A = ℕ} 0 1 = cc in absurd (omega arith)
       none (At l) Beyond h = refl
       none Beyond v h = refl
 
@@ -329,48 +329,48 @@ module _ (y : Tasks) (s : Standing) (i : ℕ) where
     pub finish : v ≡ At f
     pub ok : f + jitter ≤ released + d
 
-  later-says : (w v : Time) (jitter released d : ℕ) → within (later w v jitter released) d ≡ true → Next w v jitter released d
+  later_says : (w v : Time) (jitter released d : ℕ) → within (later w v jitter released) d ≡ true → Next w v jitter released d
   unfolding within later
-  later-says (At r) (At f) jitter released d e =
+  later_says (At r) (At f) jitter released d e =
       let h = leb-true (max r (f + jitter - released)) d e in
       record { first = le-leb r d (omega arith); f = f; finish = refl; ok = omega arith }
-  later-says (At r) Beyond jitter released d e = absurd (true≢false (sym e))
-  later-says Beyond v jitter released d e = absurd (true≢false (sym e))
+  later_says (At r) Beyond jitter released d e = absurd (true≢false (sym e))
+  later_says Beyond v jitter released d e = absurd (true≢false (sym e))
 
-  later-gives : (w v : Time) (jitter released d : ℕ) → Next w v jitter released d → within (later w v jitter released) d ≡ true
+  later_gives : (w v : Time) (jitter released d : ℕ) → Next w v jitter released d → within (later w v jitter released) d ≡ true
   unfolding within later
-  later-gives (At r) v jitter released d n =
-      rw (n .finish) (le-leb (max r (n .f + jitter - released)) d (omega (arith, leb-true r d (n .first), n .ok)))
-  later-gives Beyond v jitter released d n = n .first
+  later_gives (At r) v jitter released d n =
+      rw n.finish (le-leb (max r (n.f + jitter - released)) d (omega (arith, leb-true r d n.first, n.ok)))
+  later_gives Beyond v jitter released d n = n.first
 
   module _ (d : ℕ) where
-    worst-says : (m : ℕ) → within (worst y s i m) d ≡ true → (k : ℕ) → k < m → InTime y s i d k
+    worst_says : (m : ℕ) → within (worst y s i m) d ≡ true → (k : ℕ) → k < m → InTime y s i d k
     unfolding worst
-    worst-says zero e k l = absurd (omega arith)
-    worst-says (suc m) e k l =
-        let n = later-says _ _ _ _ _ e in
+    worst_says zero e k l = absurd (omega arith)
+    worst_says (suc m) e k l =
+        let n = later_says _ _ _ _ _ e in
         let h : k ≤ m = omega arith in
-        ⊎-elim
-        (λ q. rw q (record { f = n .f; finish = n .finish; ok = n .ok }))
-        (λ q. worst-says m (n .first) k q)
-        (eq-or-lt-of-le h)
+        ⊎_elim
+        (λ q. rw q (record { f = n.f; finish = n.finish; ok = n.ok }))
+        (λ q. worst_says m n.first k q)
+        (eq-or-lt_of_le h)
 
-    worst-gives : (m : ℕ) → ((k : ℕ) → k < m → InTime y s i d k) → within (worst y s i m) d ≡ true
+    worst_gives : (m : ℕ) → ((k : ℕ) → k < m → InTime y s i d k) → within (worst y s i m) d ≡ true
     unfolding worst within
-    worst-gives zero h = le-leb 0 d zero-le
-    worst-gives (suc m) h =
+    worst_gives zero h = le-leb 0 d zero-le
+    worst_gives (suc m) h =
         let j = h m (omega arith) in
-        later-gives _ _ _ _ _ (record { first = worst-gives m (λ k l. h k (omega arith)); f = j .f; finish = j .finish; ok = j .ok })
+        later_gives _ _ _ _ _ (record { first = worst_gives m (λ k l. h k (omega arith)); f = j.f; finish = j.finish; ok = j.ok })
 
     -- the worst of the jobs below m is within d exactly when each of them is in time
     pub worst-jobs : (m : ℕ) → (within (worst y s i m) d ≡ true) ↔ ((k : ℕ) → k < m → InTime y s i d k)
-    worst-jobs m = (worst-says m, worst-gives m)
+    worst-jobs m = (worst_says m, worst_gives m)
 
     -- R exists and R ≤ d exactly when L exists and every job k below ceil((L + J(i))/T(i)) has an F with F + J(i) ≤ k·T(i) + d
-    pub within-jobs : (within (response y s i) d ≡ true) ↔ AllInTime y s i d
-    unfolding response worstFrom within
-    within-jobs = (says (levelOf y s) refl, λ a. rw (a .level) (worst-gives (before y (a .l) i) (a .jobs)))
+    pub within_jobs : (within (response y s i) d ≡ true) ↔ AllInTime y s i d
+    unfolding response worst_from within
+    within_jobs = (says (level_of y s) refl, λ a. rw a.level (worst_gives (before y a.l i) a.jobs))
       where
-        says : (v : Time) → levelOf y s ≡ v → within (worstFrom y s i v) d ≡ true → AllInTime y s i d
-        says (At l) el e = record { l = l; level = el; jobs = worst-says (before y l i) e }
+        says : (v : Time) → level_of y s ≡ v → within (worst_from y s i v) d ≡ true → AllInTime y s i d
+        says (At l) el e = record { l = l; level = el; jobs = worst_says (before y l i) e }
         says Beyond el e = absurd (true≢false (sym e))

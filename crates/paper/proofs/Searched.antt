@@ -1,13 +1,13 @@
 -- "The smallest x with ..": what is found lies in the range that is searched, passes the test, and is the first there that does; where nothing is found, none does.
-use Prim.Native.Nat.{ℕ, zero, suc, _+_, _≤_, _<_}
-use mathlib.Core.Path.{_≡_, refl}
+use Prim.Native.Nat.{ℕ, zero, suc, ◌+◌, ◌≤◌, ◌<◌}
+use mathlib.Core.Path.{◌≡◌, refl}
 use mathlib.Core.Bool.{Bool, true, false}
-use mathlib.Core.Logic.{⊎-elim}
+use mathlib.Core.Logic.{⊎_elim}
 use native.Mathlib.Omega.{arith}
-use native.Mathlib.Nat.{eq-or-lt-of-le}
-use Rattle·paper·specs.specs.Analysis.{least}
-use Rattle·paper·specs.specs.declared.Time.{Time}
-use Rattle·paper·specs.specs.declared.Time.the-variants.{At, Beyond}
+use native.Mathlib.Nat.{eq-or-lt_of_le}
+use Rattle.paper.specs.Analysis.{least}
+use Rattle.paper.specs.declared.Time.{Time}
+use Rattle.paper.specs.declared.Time.TheVariants.{At, Beyond}
 
 pub record Searched (test : ℕ → Bool) (from n x : ℕ) : Type 0 where
   pub low : from ≤ x
@@ -17,11 +17,11 @@ pub record Searched (test : ℕ → Bool) (from n x : ℕ) : Type 0 where
 
 -- `from` fails, and so does each from the next one on up to a bound
 behind : (test : ℕ → Bool) (from most : ℕ) → test from ≡ false → ((z : ℕ) → suc from ≤ z → z < most → test z ≡ false) → (z : ℕ) → from ≤ z → z < most → test z ≡ false
-behind test from most t h z l m = ⊎-elim (λ (q : from ≡ z). rw (← q) t) (λ (k : from < z). h z k m) (eq-or-lt-of-le l)
+behind test from most t h z l m = ⊎_elim (λ (q : from ≡ z). rw (← q) t) (λ (k : from < z). h z k m) (eq-or-lt_of_le l)
 
 pub searched : (test : ℕ → Bool) (from n x : ℕ) → least test from n ≡ At x → Searched test from n x
 unfolding least
-searched test from zero x e = let z : _≡_ {A = ℕ} 0 1 = cc in absurd (omega arith)
+searched test from zero x e = let z : ◌≡◌ {A = ℕ} 0 1 = cc in absurd (omega arith)
 searched test from (suc n) x e = go (test from) refl e (searched test (suc from) n x)
   where
     go : (b : Bool) → test from ≡ b → elim b as (λ _. Time) [ true ↦ At from | false ↦ least test (suc from) n ] ≡ At x
@@ -31,14 +31,14 @@ searched test from (suc n) x e = go (test from) refl e (searched test (suc from)
         record { low = omega arith; high = omega arith; hit = rw q at t; first = λ z l m. absurd (omega arith) }
     go false t h r =
         let w = r h in
-        record { low = omega (arith, w .low); high = omega (arith, w .high); hit = w .hit; first = behind test from x t (w .first) }
+        record { low = omega (arith, w.low); high = omega (arith, w.high); hit = w.hit; first = behind test from x t w.first }
 
-pub none-found : (test : ℕ → Bool) (from n : ℕ) → least test from n ≡ Beyond → (z : ℕ) → from ≤ z → z < from + n → test z ≡ false
+pub none_found : (test : ℕ → Bool) (from n : ℕ) → least test from n ≡ Beyond → (z : ℕ) → from ≤ z → z < from + n → test z ≡ false
 unfolding least
-none-found test from zero e z l m = absurd (omega arith)
-none-found test from (suc n) e z l m = go (test from) refl e (none-found test (suc from) n)
+none_found test from zero e z l m = absurd (omega arith)
+none_found test from (suc n) e z l m = go (test from) refl e (none_found test (suc from) n)
   where
     go : (b : Bool) → test from ≡ b → elim b as (λ _. Time) [ true ↦ At from | false ↦ least test (suc from) n ] ≡ Beyond
         → (least test (suc from) n ≡ Beyond → (z : ℕ) → suc from ≤ z → z < suc from + n → test z ≡ false) → test z ≡ false
-    go true t h r = let z : _≡_ {A = ℕ} 0 1 = cc in absurd (omega arith)
+    go true t h r = let z : ◌≡◌ {A = ℕ} 0 1 = cc in absurd (omega arith)
     go false t h r = behind test from (from + suc n) t (λ z l m. r h z l (omega arith)) z l m

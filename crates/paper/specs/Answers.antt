@@ -1,143 +1,138 @@
 -- What each of the thirteen calls answers, and what every lent memory holds afterwards.
 -- A refusal returns its number (and record, for 16) and no lent byte or word has changed. On success only the bytes or words of the answer are written; the rest stay.
-use Prim.Native.Nat.{ℕ, _+_, _-_}
-use mathlib.Core.Path.{_≡_}
-use mathlib.Core.Bool.{Bool, false, cond}
-use mathlib.Core.List.{List, [], _++_}
-use lib.IntN.{ℤ, pos}
-use lib.ListN.{length, take, drop, replicate}
-use Rattle·paper·specs.specs.Numbers.{mostTasks, perTask, zeroRecord, rec, assigned}
-use Rattle·paper·specs.specs.File.{editionIn, wordsIn, fileLength, ownWords, tableIn, fileOf}
-use Rattle·paper·specs.specs.Regions.{Part, partOf, noPart, listOf, recordPart, regionsPart, lastPart, nameList, namePart}
-use Rattle·paper·specs.specs.Analysis.{Tasks, tasksOf, standing, withJob}
-use Rattle·paper·specs.specs.Lengths.{tolerance, lengthOf, allFit}
-use Rattle·paper·specs.specs.Points.{chunksOf, pointsPass}
-use Rattle·paper·specs.specs.Rows.{rowSize, Next, Ended}
-use Rattle·paper·specs.specs.Refusals.{firstOf, readAsks, recordAsks, writeAsks, timesAsks, tolerancesAsks, lengthsAsks, fitAsks, firstAsks, nextAsks, regionsAsks, nameAsks}
-use Rattle·paper·specs.specs.declared.Source.{Source}
-use Rattle·paper·specs.specs.declared.Source.the-variants.{Own}
-use Rattle·paper·specs.specs.declared.Table.{Table}
-use Rattle·paper·specs.specs.declared.Outcome.{Outcome}
-use Rattle·paper·specs.specs.declared.Outcome.the-variants.{Done, Refused}
-use Rattle·paper·specs.specs.declared.ReadAnswer.{ReadAnswer}
-use Rattle·paper·specs.specs.declared.WriteAnswer.{WriteAnswer}
-use Rattle·paper·specs.specs.declared.WriteAnswer.the-variants as Write
-use Rattle·paper·specs.specs.declared.Time.the-variants.{At}
-use Rattle·paper·specs.specs.declared.Response.{Response}
-use Rattle·paper·specs.specs.declared.TimesAnswer.{TimesAnswer}
-use Rattle·paper·specs.specs.declared.TicksAnswer.{TicksAnswer}
-use Rattle·paper·specs.specs.declared.FitAnswer.{FitAnswer}
-use Rattle·paper·specs.specs.declared.FitAnswer.the-variants as Fit
-use Rattle·paper·specs.specs.declared.Shown.the-variants.{NotShown, Passes}
-use Rattle·paper·specs.specs.declared.PointVerdict.{PointVerdict}
-use Rattle·paper·specs.specs.declared.PointsAnswer.{PointsAnswer}
-use Rattle·paper·specs.specs.declared.RowAnswer.{RowAnswer}
-use Rattle·paper·specs.specs.declared.RowAnswer.the-variants as Row
+use Rattle.std.specs.Prelude.{ℕ, ◌+◌, ◌-◌, ◌≡◌, Bool, false, cond, List, [], ◌++◌, ℤ, pos, length, take, drop, replicate}
+use Rattle.paper.specs.Numbers.{most_tasks, per_task, zero_record, rec, assigned}
+use Rattle.paper.specs.File.{edition_in, words_in, file_length, own_words, table_in, file_of}
+use Rattle.paper.specs.Regions.{Part, part_of, no_part, list_of, record_part, regions_part, last_part, name_list, name_part}
+use Rattle.paper.specs.Analysis.{Tasks, tasks_of, standing, with_job}
+use Rattle.paper.specs.Lengths.{tolerance, length_of, all_fit}
+use Rattle.paper.specs.Points.{chunks_of, points_pass}
+use Rattle.paper.specs.Rows.{row_size, Next, Ended}
+use Rattle.paper.specs.Refusals.{first_of, read_asks, record_asks, write_asks, times_asks, tolerances_asks, lengths_asks, fit_asks, first_asks, next_asks, regions_asks, name_asks}
+use Rattle.paper.specs.declared.Source.{Source}
+use Rattle.paper.specs.declared.Source.TheVariants.{Own}
+use Rattle.paper.specs.declared.Table.{Table}
+use Rattle.paper.specs.declared.Outcome.{Outcome}
+use Rattle.paper.specs.declared.Outcome.TheVariants.{Done, Refused}
+use Rattle.paper.specs.declared.ReadAnswer.{ReadAnswer}
+use Rattle.paper.specs.declared.WriteAnswer.{WriteAnswer}
+use Rattle.paper.specs.declared.WriteAnswer.TheVariants as Write
+use Rattle.paper.specs.declared.Time.TheVariants.{At}
+use Rattle.paper.specs.declared.Response.{Response}
+use Rattle.paper.specs.declared.TimesAnswer.{TimesAnswer}
+use Rattle.paper.specs.declared.TicksAnswer.{TicksAnswer}
+use Rattle.paper.specs.declared.FitAnswer.{FitAnswer}
+use Rattle.paper.specs.declared.FitAnswer.TheVariants as Fit
+use Rattle.paper.specs.declared.Shown.TheVariants.{NotShown, Passes}
+use Rattle.paper.specs.declared.PointVerdict.{PointVerdict}
+use Rattle.paper.specs.declared.PointsAnswer.{PointsAnswer}
+use Rattle.paper.specs.declared.RowAnswer.{RowAnswer}
+use Rattle.paper.specs.declared.RowAnswer.TheVariants as Row
 
 -- a where the call is done, b where it is turned away
 module _ {A : Type 0} where
-  abbrev pub whenDone : Outcome → A → A → A
-  whenDone Done a b = a
-  whenDone (Refused r) a b = b
+  abbrev pub when_done : Outcome → A → A → A
+  when_done Done a b = a
+  when_done (Refused r) a b = b
 
 -- Reading: the edition, the table and m; and the m region words at the front of the output
-abbrev pub noTable : Table
-noTable = record { n = 0; records = replicate mostTasks zeroRecord }
+abbrev pub no_table : Table
+no_table = record { n = 0; records = replicate most_tasks zero_record }
 
-abbrev pub readOutcome : List ℕ → ℕ → ℕ → List ℕ → ℕ → Outcome
-readOutcome f cabinet line catalogue room = firstOf (readAsks f cabinet line catalogue room)
+abbrev pub read_outcome : List ℕ → ℕ → ℕ → List ℕ → ℕ → Outcome
+read_outcome f cabinet line catalogue room = first_of (read_asks f cabinet line catalogue room)
 
-abbrev pub tableFor : Outcome → List ℕ → ReadAnswer
-tableFor o f = record {
+abbrev pub table_for : Outcome → List ℕ → ReadAnswer
+table_for o f = record {
   outcome = o;
-  edition = whenDone o (editionIn f) 0;
-  table = whenDone o (tableIn f) noTable;
-  words = whenDone o (wordsIn f) 0;
+  edition = when_done o (edition_in f) 0;
+  table = when_done o (table_in f) no_table;
+  words = when_done o (words_in f) 0;
 }
 
-abbrev pub wordsFor : Outcome → List ℕ → List ℕ → List ℕ
-wordsFor o f out = whenDone o (ownWords f ++ drop (wordsIn f) out) out
+abbrev pub words_for : Outcome → List ℕ → List ℕ → List ℕ
+words_for o f out = when_done o (own_words f ++ drop (words_in f) out) out
 
-abbrev pub readAnswer : List ℕ → ℕ → ℕ → List ℕ → List ℕ → ReadAnswer
-readAnswer f cabinet line catalogue out = tableFor (readOutcome f cabinet line catalogue (length out)) f
+abbrev pub read_answer : List ℕ → ℕ → ℕ → List ℕ → List ℕ → ReadAnswer
+read_answer f cabinet line catalogue out = table_for (read_outcome f cabinet line catalogue (length out)) f
 
-abbrev pub readOut : List ℕ → ℕ → ℕ → List ℕ → List ℕ → List ℕ
-readOut f cabinet line catalogue out = wordsFor (readOutcome f cabinet line catalogue (length out)) f out
+abbrev pub read_out : List ℕ → ℕ → ℕ → List ℕ → List ℕ → List ℕ
+read_out f cabinet line catalogue out = words_for (read_outcome f cabinet line catalogue (length out)) f out
 
 -- Writing, told the edition e: the file's length; and exactly its bytes at the front of the output
-abbrev pub writeOutcome : ℕ → Table → ℕ → ℕ → List ℕ → List ℕ → ℕ → Outcome
-writeOutcome e t cabinet line own catalogue room = firstOf (writeAsks e t cabinet line own catalogue room)
+abbrev pub write_outcome : ℕ → Table → ℕ → ℕ → List ℕ → List ℕ → ℕ → Outcome
+write_outcome e t cabinet line own catalogue room = first_of (write_asks e t cabinet line own catalogue room)
 
-abbrev pub lengthFor : Outcome → ℕ → WriteAnswer
-lengthFor Done size = Write.File size
-lengthFor (Refused r) size = Write.Refused r
+abbrev pub length_for : Outcome → ℕ → WriteAnswer
+length_for Done size = Write.File size
+length_for (Refused r) size = Write.Refused r
 
-abbrev pub fileFor : Outcome → ℕ → Table → ℕ → ℕ → List ℕ → List ℕ → List ℕ
-fileFor o e t cabinet line own out =
-    whenDone o (fileOf e t cabinet line own ++ drop (fileLength e (t .n) (length own)) out) out
+abbrev pub file_for : Outcome → ℕ → Table → ℕ → ℕ → List ℕ → List ℕ → List ℕ
+file_for o e t cabinet line own out =
+    when_done o (file_of e t cabinet line own ++ drop (file_length e t.n (length own)) out) out
 
-abbrev pub writeAnswer : ℕ → Table → ℕ → ℕ → List ℕ → List ℕ → List ℕ → WriteAnswer
-writeAnswer e t cabinet line own catalogue out =
-    lengthFor (writeOutcome e t cabinet line own catalogue (length out)) (fileLength e (t .n) (length own))
+abbrev pub write_answer : ℕ → Table → ℕ → ℕ → List ℕ → List ℕ → List ℕ → WriteAnswer
+write_answer e t cabinet line own catalogue out =
+    length_for (write_outcome e t cabinet line own catalogue (length out)) (file_length e t.n (length own))
 
-abbrev pub writeOut : ℕ → Table → ℕ → ℕ → List ℕ → List ℕ → List ℕ → List ℕ
-writeOut e t cabinet line own catalogue out =
-    fileFor (writeOutcome e t cabinet line own catalogue (length out)) e t cabinet line own out
+abbrev pub write_out : ℕ → Table → ℕ → ℕ → List ℕ → List ℕ → List ℕ → List ℕ
+write_out e t cabinet line own catalogue out =
+    file_for (write_outcome e t cabinet line own catalogue (length out)) e t cabinet line own out
 
 -- Response times: for each task its R with the job that reached it, or beyond with job 0
-abbrev pub noTime : Response
-noTime = record { time = At 0; job = 0 }
+abbrev pub no_time : Response
+no_time = record { time = At 0; job = 0 }
 
-abbrev pub timeOf : Table → ℕ → Response
-timeOf t i =
-    withJob (tasksOf (t .records) (t .n)) (standing (tasksOf (t .records) (t .n)) (assigned (t .records)) i) i
+abbrev pub time_of : Table → ℕ → Response
+time_of t i =
+    with_job (tasks_of t.records t.n) (standing (tasks_of t.records t.n) (assigned t.records) i) i
 
-abbrev pub timesFor : Outcome → Table → TimesAnswer
-timesFor o t = record { outcome = o; times = whenDone o (perTask (t .n) (timeOf t) noTime) (replicate mostTasks noTime) }
+abbrev pub times_for : Outcome → Table → TimesAnswer
+times_for o t = record { outcome = o; times = when_done o (per_task t.n (time_of t) no_time) (replicate most_tasks no_time) }
 
-abbrev pub timesAnswer : Table → TimesAnswer
-timesAnswer t = timesFor (firstOf (timesAsks t)) t
+abbrev pub times_answer : Table → TimesAnswer
+times_answer t = times_for (first_of (times_asks t)) t
 
 -- Tolerances, lengths: a signed number for each task
-abbrev pub ticksFor : Outcome → ℕ → (ℕ → ℤ) → TicksAnswer
-ticksFor o n f = record { outcome = o; ticks = whenDone o (perTask n f (pos 0)) (replicate mostTasks (pos 0)) }
+abbrev pub ticks_for : Outcome → ℕ → (ℕ → ℤ) → TicksAnswer
+ticks_for o n f = record { outcome = o; ticks = when_done o (per_task n f (pos 0)) (replicate most_tasks (pos 0)) }
 
-abbrev pub tolerancesAnswer : Table → TicksAnswer
-tolerancesAnswer t =
-    ticksFor (firstOf (tolerancesAsks t)) (t .n) (tolerance (tasksOf (t .records) (t .n)) (assigned (t .records)))
+abbrev pub tolerances_answer : Table → TicksAnswer
+tolerances_answer t =
+    ticks_for (first_of (tolerances_asks t)) t.n (tolerance (tasks_of t.records t.n) (assigned t.records))
 
-abbrev pub lengthsAnswer : Table → TicksAnswer
-lengthsAnswer t =
-    ticksFor (firstOf (lengthsAsks t)) (t .n) (lengthOf (tasksOf (t .records) (t .n)) (assigned (t .records)))
+abbrev pub lengths_answer : Table → TicksAnswer
+lengths_answer t =
+    ticks_for (first_of (lengths_asks t)) t.n (length_of (tasks_of t.records t.n) (assigned t.records))
 
 -- The region check: yes exactly when every region of every task is at most its task's length
-abbrev pub fitFor : Outcome → Bool → FitAnswer
-fitFor Done fits = cond fits Fit.Fits Fit.Unfit
-fitFor (Refused r) fits = Fit.Refused r
+abbrev pub fit_for : Outcome → Bool → FitAnswer
+fit_for Done fits = cond fits Fit.Fits Fit.Unfit
+fit_for (Refused r) fits = Fit.Refused r
 
-abbrev pub fitAnswer : Table → List ℕ → List ℕ → FitAnswer
-fitAnswer t own catalogue =
-    fitFor (firstOf (fitAsks t own catalogue))
-    (allFit (t .records) (tasksOf (t .records) (t .n)) (assigned (t .records)) own catalogue)
+abbrev pub fit_answer : Table → List ℕ → List ℕ → FitAnswer
+fit_answer t own catalogue =
+    fit_for (first_of (fit_asks t own catalogue))
+    (all_fit t.records (tasks_of t.records t.n) (assigned t.records) own catalogue)
 
 -- Fixed preemption points: for each task, whether it passes; the test is sufficient only, so a "no" is "not shown"; past n, and on a refusal, nothing is shown either. The refusals are the region check's
-abbrev pub verdictFor : Bool → PointVerdict
-verdictFor passes = record { verdict = cond passes Passes NotShown }
+abbrev pub verdict_for : Bool → PointVerdict
+verdict_for passes = record { verdict = cond passes Passes NotShown }
 
-abbrev pub pointsFor : Outcome → ℕ → (ℕ → Bool) → PointsAnswer
-pointsFor o n f = record {
+abbrev pub points_for : Outcome → ℕ → (ℕ → Bool) → PointsAnswer
+points_for o n f = record {
   outcome = o;
-  tasks = whenDone o (perTask n (λ k. verdictFor (f k)) (verdictFor false)) (replicate mostTasks (verdictFor false));
+  tasks = when_done o (per_task n (λ k. verdict_for (f k)) (verdict_for false)) (replicate most_tasks (verdict_for false));
 }
 
-abbrev pub pointsAnswer : Table → List ℕ → List ℕ → PointsAnswer
-pointsAnswer t own catalogue =
-    pointsFor (firstOf (fitAsks t own catalogue)) (t .n)
-    (pointsPass (tasksOf (t .records) (t .n)) (assigned (t .records)) (chunksOf (t .records) own catalogue))
+abbrev pub points_answer : Table → List ℕ → List ℕ → PointsAnswer
+points_answer t own catalogue =
+    points_for (first_of (fit_asks t own catalogue)) t.n
+    (points_pass (tasks_of t.records t.n) (assigned t.records) (chunks_of t.records own catalogue))
 
 -- The listing: out and out' are what the buffer holds before and after. A row found is its first 2n numbers; the end and a refusal write nothing.
 unfoldable pub Lists : Tasks → List ℕ → List ℕ → List ℕ → RowAnswer → Type 0
-Lists y given out out' Row.Row = Next y given (take (rowSize (y .n)) out') × (drop (rowSize (y .n)) out' ≡ drop (rowSize (y .n)) out)
+Lists y given out out' Row.Row = Next y given (take (row_size y.n) out') × (drop (row_size y.n) out' ≡ drop (row_size y.n) out)
 Lists y given out out' Row.End = Ended y given × (out' ≡ out)
 Lists y given out out' (Row.Refused r) = ⊥
 
@@ -147,54 +142,54 @@ Says (Refused r) y given out out' answer = (answer ≡ Row.Refused r) × (out' �
 
 -- the first of all: from a row that has not begun
 unfoldable pub FirstSays : Table → List ℕ → List ℕ → RowAnswer → Type 0
-FirstSays t out out' answer = Says (firstOf (firstAsks t (length out))) (tasksOf (t .records) (t .n)) [] out out' answer
+FirstSays t out out' answer = Says (first_of (first_asks t (length out))) (tasks_of t.records t.n) [] out out' answer
 
 -- the first strictly after a given row
 unfoldable pub NextSays : Table → List ℕ → List ℕ → List ℕ → RowAnswer → Type 0
-NextSays t given out out' answer = Says (firstOf (nextAsks t given (length out))) (tasksOf (t .records) (t .n)) given out out' answer
+NextSays t given out out' answer = Says (first_of (next_asks t given (length out))) (tasks_of t.records t.n) given out out' answer
 
 -- Parts handed back: the outcome, and where the part stands in the list it is of; on a refusal it is empty, at the start
-abbrev pub partFor : Outcome → Part → Part
-partFor o p = whenDone o p noPart
+abbrev pub part_for : Outcome → Part → Part
+part_for o p = when_done o p no_part
 
-abbrev pub recordOutcome : List ℕ → ℕ → ℕ → List ℕ → ℕ → Outcome
-recordOutcome f cabinet line catalogue number = firstOf (recordAsks f cabinet line catalogue number)
+abbrev pub record_outcome : List ℕ → ℕ → ℕ → List ℕ → ℕ → Outcome
+record_outcome f cabinet line catalogue number = first_of (record_asks f cabinet line catalogue number)
 
 -- the record: of the caller's own file
-abbrev pub recordPlace : List ℕ → ℕ → ℕ → List ℕ → ℕ → Part
-recordPlace f cabinet line catalogue number = partFor (recordOutcome f cabinet line catalogue number) (recordPart (editionIn f) number)
+abbrev pub record_place : List ℕ → ℕ → ℕ → List ℕ → ℕ → Part
+record_place f cabinet line catalogue number = part_for (record_outcome f cabinet line catalogue number) (record_part (edition_in f) number)
 
-abbrev pub recordBytes : List ℕ → ℕ → ℕ → List ℕ → ℕ → List ℕ
-recordBytes f cabinet line catalogue number = partOf (recordPlace f cabinet line catalogue number) f
+abbrev pub record_bytes : List ℕ → ℕ → ℕ → List ℕ → ℕ → List ℕ
+record_bytes f cabinet line catalogue number = part_of (record_place f cabinet line catalogue number) f
 
 -- the regions: of the own words or of the catalogue, whichever the record names; of the own words on a refusal
-abbrev pub regionsOutcome : Table → List ℕ → List ℕ → ℕ → Outcome
-regionsOutcome t own catalogue number = firstOf (regionsAsks t own catalogue number)
+abbrev pub regions_outcome : Table → List ℕ → List ℕ → ℕ → Outcome
+regions_outcome t own catalogue number = first_of (regions_asks t own catalogue number)
 
-abbrev pub regionsSource : Table → List ℕ → List ℕ → ℕ → Source
-regionsSource t own catalogue number = whenDone (regionsOutcome t own catalogue number) (rec (t .records) (number - 1) .source) Own
+abbrev pub regions_source : Table → List ℕ → List ℕ → ℕ → Source
+regions_source t own catalogue number = when_done (regions_outcome t own catalogue number) (rec t.records (number - 1)).source Own
 
-abbrev pub regionsPlace : Table → List ℕ → List ℕ → ℕ → Part
-regionsPlace t own catalogue number = partFor (regionsOutcome t own catalogue number) (regionsPart (rec (t .records) (number - 1)))
+abbrev pub regions_place : Table → List ℕ → List ℕ → ℕ → Part
+regions_place t own catalogue number = part_for (regions_outcome t own catalogue number) (regions_part (rec t.records (number - 1)))
 
-abbrev pub regionsWords : Table → List ℕ → List ℕ → ℕ → List ℕ
-regionsWords t own catalogue number =
-    partOf (regionsPlace t own catalogue number) (listOf (regionsSource t own catalogue number) own catalogue)
+abbrev pub regions_words : Table → List ℕ → List ℕ → ℕ → List ℕ
+regions_words t own catalogue number =
+    part_of (regions_place t own catalogue number) (list_of (regions_source t own catalogue number) own catalogue)
 
 -- the last region: one word of the list that the record names; it asks what the regions ask, 5, 13, then 11 for that record alone, and is empty at the start of the own words on a refusal
-abbrev pub lastPlace : Table → List ℕ → List ℕ → ℕ → Part
-lastPlace t own catalogue number = partFor (regionsOutcome t own catalogue number) (lastPart (rec (t .records) (number - 1)))
+abbrev pub last_place : Table → List ℕ → List ℕ → ℕ → Part
+last_place t own catalogue number = part_for (regions_outcome t own catalogue number) (last_part (rec t.records (number - 1)))
 
-abbrev pub lastWords : Table → List ℕ → List ℕ → ℕ → List ℕ
-lastWords t own catalogue number =
-    partOf (lastPlace t own catalogue number) (listOf (regionsSource t own catalogue number) own catalogue)
+abbrev pub last_words : Table → List ℕ → List ℕ → ℕ → List ℕ
+last_words t own catalogue number =
+    part_of (last_place t own catalogue number) (list_of (regions_source t own catalogue number) own catalogue)
 
 -- the name: of the cabinet's list or of the house list, by its number alone
-abbrev pub nameOutcome : ℕ → List ℕ → List ℕ → Outcome
-nameOutcome number cabinet house = firstOf (nameAsks number cabinet house)
+abbrev pub name_outcome : ℕ → List ℕ → List ℕ → Outcome
+name_outcome number cabinet house = first_of (name_asks number cabinet house)
 
-abbrev pub namePlace : ℕ → List ℕ → List ℕ → Part
-namePlace number cabinet house = partFor (nameOutcome number cabinet house) (namePart number (nameList number cabinet house))
+abbrev pub name_place : ℕ → List ℕ → List ℕ → Part
+name_place number cabinet house = part_for (name_outcome number cabinet house) (name_part number (name_list number cabinet house))
 
-abbrev pub nameBytes : ℕ → List ℕ → List ℕ → List ℕ
-nameBytes number cabinet house = partOf (namePlace number cabinet house) (nameList number cabinet house)
+abbrev pub name_bytes : ℕ → List ℕ → List ℕ → List ℕ
+name_bytes number cabinet house = part_of (name_place number cabinet house) (name_list number cabinet house)

@@ -1,13 +1,11 @@
 -- The few words that the other pages are written in. Nothing here is about cabinets.
-use Prim.Native.Nat.{ℕ, zero, suc, _+_, _-_, _/_, max}
-use mathlib.Core.Bool.{Bool, true, false, _&&_, _||_, cond}
-use mathlib.Core.List.{List, [], _∷_, _++_}
+use Rattle.std.specs.Prelude.{ℕ, zero, suc, ◌+◌, ◌-◌, ◌/◌, max, Bool, true, false, ◌&&◌, ◌||◌, cond, List, [], ◌∷◌, ◌++◌}
 
 -- f 0, f 1, .., f (n - 1), as a list
 module _ {A : Type 0} where
-  unfoldable pub listTo : ℕ → (ℕ → A) → List A
-  listTo zero f = []
-  listTo (suc n) f = listTo n f ++ (f n ∷ [])
+  unfoldable pub list_to : ℕ → (ℕ → A) → List A
+  list_to zero f = []
+  list_to (suc n) f = list_to n f ++ (f n ∷ [])
 
 -- every k below n passes the test
 unfoldable pub every : ℕ → (ℕ → Bool) → Bool
@@ -25,15 +23,15 @@ lowest zero test = 0
 lowest (suc n) test = elim (lowest n test) [ zero ↦ cond (test n) (suc n) 0 | suc k ↦ suc k ]
 
 -- the sum of f k over the k below n
-unfoldable pub sumTo : ℕ → (ℕ → ℕ) → ℕ
-sumTo zero f = 0
-sumTo (suc n) f = sumTo n f + f n
+unfoldable pub sum_to : ℕ → (ℕ → ℕ) → ℕ
+sum_to zero f = 0
+sum_to (suc n) f = sum_to n f + f n
 
 -- the largest f k over the k below n, or 0
-unfoldable pub maxTo : ℕ → (ℕ → ℕ) → ℕ
-maxTo zero f = 0
-maxTo (suc n) f = max (maxTo n f) (f n)
+unfoldable pub max_to : ℕ → (ℕ → ℕ) → ℕ
+max_to zero f = 0
+max_to (suc n) f = max (max_to n f) (f n)
 
 -- x / t, rounded up
-abbrev pub ceilDiv : ℕ → ℕ → ℕ
-ceilDiv x t = (x + (t - 1)) / t
+abbrev pub ceil_div : ℕ → ℕ → ℕ
+ceil_div x t = (x + (t - 1)) / t

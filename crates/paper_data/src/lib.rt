@@ -1,1 +1,2 @@
 // The types of the calls, as `handed` asks for them: a crate of proofs alone.
+#![tactic(auto)]

@@ -1,23 +1,14 @@
 // The parts handed back: a record, a task's regions, a name. Each is a part of what the caller lent, never a copy.
 // Each comes in three calls: the outcome alone, the bare part (empty where the call is turned away), and both from one call.
-ghost use mathlib.Core.Path.{_≡_};
-ghost use mathlib.Core.Bool.{cond, _&&_};
-ghost use Prim.Native.Nat.{_+_, _-_, _*_, _≤_};
-ghost use lib.Dec.{leb};
-ghost use lib.ListN.{length};
-ghost use Rattle·paper.specs.Numbers.{mostTasks, rec};
-ghost use Rattle·paper.specs.Regions.{listOf, inCabinetList, nameList, nameStart, trimmed};
-ghost use Rattle·paper.specs.Answers.{recordOutcome, regionsOutcome, nameOutcome};
-ghost use Rattle·parts·specs.specs.Parts.{IsPart, IsName, sliceOf, AreRegions, IsRecord};
-use paper::BytesPart;
-use paper::Cabinet;
-use paper::Line;
-use paper::Outcome;
-use paper::Record;
-use paper::Refusal;
-use paper::Source;
-use paper::Table;
-use paper::WordsPart;
+#![tactic(auto)]
+
+ghost use Rattle.std.specs.Prelude.{◌≡◌, cond, ◌&&◌, ◌+◌, ◌-◌, ◌*◌, ◌≤◌, leb, length};
+ghost use Rattle.paper.specs.Numbers.{most_tasks, rec};
+ghost use Rattle.paper.specs.Regions.{list_of, in_cabinet_list, name_list, name_start, trimmed};
+ghost use Rattle.paper.specs.Answers.{record_outcome, regions_outcome, name_outcome};
+ghost use Rattle.parts.specs.Parts.{IsPart, IsName, slice_of, AreRegions, IsRecord};
+
+use paper::{BytesPart, Cabinet, Line, Outcome, Record, Refusal, Source, Table, WordsPart};
 
 // A name's entry, and the first name number that stands in the house list.
 const NAME_BYTES: usize = 16;
@@ -26,16 +17,16 @@ const FIRST_OF_HOUSE: u32 = 64;
 
 // `count` bytes, or words, from `from`.
 fn bytes_from<'a>(s: &'a [u8], from: usize, count: usize) -> &'a [u8]
-    requires { ⌜ from + count ≤ length (now s) ⌝ }
-    ensures { λ r. ⌜ IsPart (s .entry) 1 (record { from = from; count = count }) r ⌝ }
+    requires { from + count ≤ length s.now }
+    ensures { IsPart s.entry 1 (record { from = from; count = count }) result }
 {
     let end = from + count;
     &s[from..end]
 }
 
 fn words_from<'a>(s: &'a [u32], from: usize, count: usize) -> &'a [u32]
-    requires { ⌜ from + count ≤ length (now s) ⌝ }
-    ensures { λ r. ⌜ IsPart (s .entry) 4 (record { from = from; count = count }) r ⌝ }
+    requires { from + count ≤ length s.now }
+    ensures { IsPart s.entry 4 (record { from = from; count = count }) result }
 {
     let end = from + count;
     &s[from..end]
@@ -43,8 +34,8 @@ fn words_from<'a>(s: &'a [u32], from: usize, count: usize) -> &'a [u32]
 
 // The name. The list that a number stands in, and where its entry begins there.
 fn name_list<'a>(number: u32, cabinet: &'a [u8], house: &'a [u8]) -> &'a [u8]
-    ensures { λ r. ⌜ r ≡ cond (inCabinetList number) (cabinet .entry) (house .entry) ⌝ }
-    ensures { λ r. ⌜ now r ≡ nameList number (now (cabinet .entry)) (now (house .entry)) ⌝ }
+    ensures value { result ≡ cond (in_cabinet_list number) cabinet.entry house.entry }
+    ensures result_value { result.now ≡ name_list number cabinet.now house.now }
 {
     if FIRST_OF_HOUSE <= number {
         return house;
@@ -53,8 +44,8 @@ fn name_list<'a>(number: u32, cabinet: &'a [u8], house: &'a [u8]) -> &'a [u8]
 }
 
 fn name_start(number: u32) -> usize
-    ensures { λ at. ⌜ at ≡ nameStart number ⌝ }
-    ensures { λ at. ⌜ at ≤ 16 * number ⌝ }
+    ensures value { result ≡ name_start number }
+    ensures upper_bound { result ≤ 16 * number }
 {
     if number < FIRST_OF_HOUSE {
         return NAME_BYTES * number as usize;
@@ -63,7 +54,7 @@ fn name_start(number: u32) -> usize
 }
 
 pub fn name_outcome<'a>(number: u32, cabinet: &'a [u8], house: &'a [u8]) -> Outcome
-    ensures { λ r. ⌜ r ≡ nameOutcome number (now (cabinet .entry)) (now (house .entry)) ⌝ }
+    ensures { result ≡ name_outcome number cabinet.now house.now }
 {
     let list = name_list(number, cabinet, house);
     let end = name_start(number) + NAME_BYTES;
@@ -78,9 +69,9 @@ pub fn name_outcome<'a>(number: u32, cabinet: &'a [u8], house: &'a [u8]) -> Outc
 
 // How many of the `width` bytes from `at` stay without the trailing spaces.
 fn kept(s: &[u8], at: usize, width: usize) -> usize
-    requires { ⌜ at + width ≤ length (now s) ⌝ }
-    ensures { λ r. ⌜ r ≡ trimmed (now (s .entry)) at width ⌝ }
-    ensures { λ r. ⌜ r ≤ width ⌝ }
+    requires { at + width ≤ length s.now }
+    ensures value { result ≡ trimmed s.now at width }
+    ensures upper_bound { result ≤ width }
 {
     let mut stay = width;
     while 0 < stay {
@@ -95,8 +86,8 @@ fn kept(s: &[u8], at: usize, width: usize) -> usize
 
 // The part that an outcome gives.
 fn name_for<'a>(outcome: Outcome, number: u32, cabinet: &'a [u8], house: &'a [u8]) -> &'a [u8]
-    requires { ⌜ outcome ≡ nameOutcome number (now cabinet) (now house) ⌝ }
-    ensures { λ r. ⌜ IsName number (cabinet .entry) (house .entry) r ⌝ }
+    requires { outcome ≡ name_outcome number cabinet.now house.now }
+    ensures { IsName number cabinet.entry house.entry result }
 {
     let list = name_list(number, cabinet, house);
     match outcome {
@@ -110,14 +101,14 @@ fn name_for<'a>(outcome: Outcome, number: u32, cabinet: &'a [u8], house: &'a [u8
 }
 
 pub fn name_bytes<'a>(number: u32, cabinet: &'a [u8], house: &'a [u8]) -> &'a [u8]
-    ensures { λ r. ⌜ IsName number (cabinet .entry) (house .entry) r ⌝ }
+    ensures { IsName number cabinet.entry house.entry result }
 {
     let outcome = name_outcome(number, cabinet, house);
     name_for(outcome, number, cabinet, house)
 }
 
 pub fn name<'a>(number: u32, cabinet: &'a [u8], house: &'a [u8]) -> BytesPart<'a>
-    ensures { λ r. ⌜ (r .outcome ≡ nameOutcome number (now (cabinet .entry)) (now (house .entry))) × IsName number (cabinet .entry) (house .entry) (r .bytes) ⌝ }
+    ensures { (result.outcome ≡ name_outcome number cabinet.now house.now) × IsName number cabinet.entry house.entry result.bytes }
 {
     let outcome = name_outcome(number, cabinet, house);
     let bytes = name_for(outcome, number, cabinet, house);
@@ -126,8 +117,8 @@ pub fn name<'a>(number: u32, cabinet: &'a [u8], house: &'a [u8]) -> BytesPart<'a
 
 // The regions. The list that a record's source names.
 fn source_list<'a>(source: Source, own: &'a [u32], catalogue: &'a [u32]) -> &'a [u32]
-    ensures { λ r. ⌜ r ≡ sliceOf source (own .entry) (catalogue .entry) ⌝ }
-    ensures { λ r. ⌜ now r ≡ listOf source (now (own .entry)) (now (catalogue .entry)) ⌝ }
+    ensures value { result ≡ slice_of source own.entry catalogue.entry }
+    ensures result_value { result.now ≡ list_of source own.now catalogue.now }
 {
     match source {
         Source::Own => own,
@@ -137,21 +128,21 @@ fn source_list<'a>(source: Source, own: &'a [u32], catalogue: &'a [u32]) -> &'a 
 
 // Records are numbered from 1.
 fn is_record(number: usize, n: usize) -> bool
-    ensures { λ b. ⌜ b ≡ (leb 1 number && leb number n) ⌝ }
+    ensures { result ≡ (leb 1 number && leb number n) }
 {
     (1 <= number) & (number <= n)
 }
 
 fn record_of(t: Table, number: usize) -> Record
-    requires { ⌜ (1 ≤ number) × (number ≤ mostTasks) ⌝ }
-    ensures { λ r. ⌜ r ≡ rec (t .records) (number - 1) ⌝ }
+    requires { (1 ≤ number) × (number ≤ most_tasks) }
+    ensures { result ≡ rec t.records (number - 1) }
 {
     let rs = t.records;
     rs[number - 1]
 }
 
 pub fn regions_outcome<'a>(t: Table, own: &'a [u32], catalogue: &'a [u32], number: usize) -> Outcome
-    ensures { λ r. ⌜ r ≡ regionsOutcome t (now (own .entry)) (now (catalogue .entry)) number ⌝ }
+    ensures { result ≡ regions_outcome t own.now catalogue.now number }
 {
     let n = t.n;
     if !checks::counts_in_range(n, own.len()) {
@@ -174,8 +165,8 @@ pub fn regions_for<'a>(
     catalogue: &'a [u32],
     number: usize,
 ) -> &'a [u32]
-    requires { ⌜ outcome ≡ regionsOutcome t (now own) (now catalogue) number ⌝ }
-    ensures { λ r. ⌜ AreRegions t (own .entry) (catalogue .entry) number r ⌝ }
+    requires { outcome ≡ regions_outcome t own.now catalogue.now number }
+    ensures { AreRegions t own.entry catalogue.entry number result }
 {
     match outcome {
         Outcome::Refused(_) => words_from(own, 0, 0),
@@ -191,14 +182,14 @@ pub fn regions_for<'a>(
 }
 
 pub fn regions_words<'a>(t: Table, own: &'a [u32], catalogue: &'a [u32], number: usize) -> &'a [u32]
-    ensures { λ r. ⌜ AreRegions t (own .entry) (catalogue .entry) number r ⌝ }
+    ensures { AreRegions t own.entry catalogue.entry number result }
 {
     let outcome = regions_outcome(t, own, catalogue, number);
     regions_for(outcome, t, own, catalogue, number)
 }
 
 pub fn regions<'a>(t: Table, own: &'a [u32], catalogue: &'a [u32], number: usize) -> WordsPart<'a>
-    ensures { λ r. ⌜ (r .outcome ≡ regionsOutcome t (now (own .entry)) (now (catalogue .entry)) number) × AreRegions t (own .entry) (catalogue .entry) number (r .words) ⌝ }
+    ensures { (result.outcome ≡ regions_outcome t own.now catalogue.now number) × AreRegions t own.entry catalogue.entry number result.words }
 {
     let outcome = regions_outcome(t, own, catalogue, number);
     let words = regions_for(outcome, t, own, catalogue, number);
@@ -213,7 +204,7 @@ pub fn record_outcome(
     catalogue: &[u32],
     number: usize,
 ) -> Outcome
-    ensures { λ r. ⌜ r ≡ recordOutcome (now (file .entry)) (cabinet .0) (line .0) (now (catalogue .entry)) number ⌝ }
+    ensures { result ≡ record_outcome file.now cabinet.0 line.0 catalogue.now number }
 {
     let outcome = reader::file_outcome(file, cabinet, line, catalogue);
     match outcome {
@@ -237,8 +228,8 @@ fn record_for<'a>(
     catalogue: &[u32],
     number: usize,
 ) -> &'a [u8]
-    requires { ⌜ outcome ≡ recordOutcome (now file) (cabinet .0) (line .0) (now catalogue) number ⌝ }
-    ensures { λ r. ⌜ IsRecord (file .entry) (cabinet .0) (line .0) (now (catalogue .entry)) number r ⌝ }
+    requires { outcome ≡ record_outcome file.now cabinet.0 line.0 catalogue.now number }
+    ensures { IsRecord file.entry cabinet.0 line.0 catalogue.now number result }
 {
     match outcome {
         Outcome::Refused(_) => bytes_from(file, 0, 0),
@@ -258,7 +249,7 @@ pub fn record_bytes<'a>(
     catalogue: &[u32],
     number: usize,
 ) -> &'a [u8]
-    ensures { λ r. ⌜ IsRecord (file .entry) (cabinet .0) (line .0) (now (catalogue .entry)) number r ⌝ }
+    ensures { IsRecord file.entry cabinet.0 line.0 catalogue.now number result }
 {
     let outcome = record_outcome(file, cabinet, line, catalogue, number);
     record_for(outcome, file, cabinet, line, catalogue, number)
@@ -271,7 +262,7 @@ pub fn record<'a>(
     catalogue: &[u32],
     number: usize,
 ) -> BytesPart<'a>
-    ensures { λ r. ⌜ (r .outcome ≡ recordOutcome (now (file .entry)) (cabinet .0) (line .0) (now (catalogue .entry)) number) × IsRecord (file .entry) (cabinet .0) (line .0) (now (catalogue .entry)) number (r .bytes) ⌝ }
+    ensures { (result.outcome ≡ record_outcome file.now cabinet.0 line.0 catalogue.now number) × IsRecord file.entry cabinet.0 line.0 catalogue.now number result.bytes }
 {
     let outcome = record_outcome(file, cabinet, line, catalogue, number);
     let bytes = record_for(outcome, file, cabinet, line, catalogue, number);

@@ -1,32 +1,24 @@
 // The test of fixed preemption points, for firmware that yields only where a region ends. It is sufficient only: a task that does
 // not pass is not shown to be in time, and may be all the same.
-ghost use mathlib.Core.Path.{_≡_};
-ghost use mathlib.Core.Bool.{false};
-ghost use Prim.Native.Nat.{_≤_};
-ghost use lib.ListN.{replicate};
-ghost use Rattle·paper.specs.Numbers.{mostTasks, rec, perTask};
-ghost use Rattle·paper.specs.Analysis.{tasksOf};
-ghost use Rattle·paper.specs.Points.{longestRegion, lastRegion};
-ghost use Rattle·paper.specs.Answers.{verdictFor, pointsAnswer};
-ghost use Rattle·columns.specs.Columns.{tasksBy, rankedBy, Ranged};
-ghost use Rattle·point_test.specs.Chunks.{Short, chunksBy};
-ghost use Rattle·points·specs.specs.Stages.{Brief, verdictsOf, pointsLeft, turnedAway};
-use columns::Column;
-use columns::Numbers;
-use columns::Tasks;
-use paper::MOST_TASKS;
-use paper::Outcome;
-use paper::PointVerdict;
-use paper::PointsAnswer;
-use paper::Record;
-use paper::Refusal;
-use paper::Shown;
-use paper::Table;
+
+#![tactic(auto)]
+
+ghost use Rattle.std.specs.Prelude.{◌≡◌, false, ◌≤◌, replicate};
+ghost use Rattle.paper.specs.Numbers.{most_tasks, rec, per_task};
+ghost use Rattle.paper.specs.Analysis.{tasks_of};
+ghost use Rattle.paper.specs.Points.{longest_region, last_region};
+ghost use Rattle.paper.specs.Answers.{verdict_for, points_answer};
+ghost use Rattle.columns.specs.Columns.{tasks_by, ranked_by, Ranged};
+ghost use Rattle.point_test.specs.Chunks.{Short, chunks_by};
+ghost use Rattle.points.specs.Stages.{Brief, verdicts_of, points_left, turned_away};
+
+use columns::{Column, Numbers, Tasks};
+use paper::{MOST_TASKS, Outcome, PointVerdict, PointsAnswer, Record, Refusal, Shown, Table};
 
 // The longest region of each of the n tasks.
 fn all_longest(rs: [Record; MOST_TASKS], n: usize, own: &[u32], catalogue: &[u32]) -> Numbers
-    requires { ⌜ n ≤ mostTasks ⌝ }
-    ensures { λ xs. ⌜ xs ≡ perTask n (λ k. longestRegion (now (own .entry)) (now (catalogue .entry)) (rec rs k)) 0 ⌝ }
+    requires { n ≤ most_tasks }
+    ensures { result ≡ per_task n (λ k. longest_region own.now catalogue.now (rec rs k)) 0 }
 {
     let mut xs = [0u64; MOST_TASKS];
     let mut k: usize = 0;
@@ -38,7 +30,7 @@ fn all_longest(rs: [Record; MOST_TASKS], n: usize, own: &[u32], catalogue: &[u32
 }
 
 fn verdict(passes: bool) -> PointVerdict
-    ensures { λ r. ⌜ r ≡ verdictFor passes ⌝ }
+    ensures { result ≡ verdict_for passes }
 {
     if passes {
         return PointVerdict {
@@ -51,7 +43,7 @@ fn verdict(passes: bool) -> PointVerdict
 }
 
 fn none_shown() -> [PointVerdict; MOST_TASKS]
-    ensures { λ r. ⌜ r ≡ replicate mostTasks (verdictFor false) ⌝ }
+    ensures { result ≡ replicate most_tasks (verdict_for false) }
 {
     let none = verdict(false);
     [none; MOST_TASKS]
@@ -67,8 +59,8 @@ fn all_points(
     own: &[u32],
     catalogue: &[u32],
 ) -> [PointVerdict; MOST_TASKS]
-    requires { ⌜ Ranged (tasksBy n (now y)) × Short n (now regions) ⌝ }
-    ensures { λ r. ⌜ r ≡ verdictsOf (tasksBy n (now (y .entry))) (rankedBy (now (p .entry))) (chunksBy (now (regions .entry)) (λ k. lastRegion (now (own .entry)) (now (catalogue .entry)) (rec rs k))) ⌝ }
+    requires { Ranged (tasks_by n y.now) × Short n regions.now }
+    ensures { result ≡ verdicts_of (tasks_by n y.now) (ranked_by p.now) (chunks_by regions.now (λ k. last_region own.now catalogue.now (rec rs k))) }
 {
     let mut tasks = none_shown();
     let mut i: usize = 0;
@@ -81,7 +73,7 @@ fn all_points(
 }
 
 fn turned_away(why: Refusal) -> PointsAnswer
-    ensures { λ r. ⌜ r ≡ turnedAway why ⌝ }
+    ensures { result ≡ turned_away why }
 {
     let tasks = none_shown();
     PointsAnswer {
@@ -93,8 +85,8 @@ fn turned_away(why: Refusal) -> PointsAnswer
 // What is left of the call once nothing that is asked before the tolerances applies: refusal 16, or the verdicts. The table is
 // unpacked once.
 fn points_in_range(t: Table, own: &[u32], catalogue: &[u32]) -> PointsAnswer
-    requires { ⌜ Ranged (tasksOf (t .records) (t .n)) × Brief t (now own) (now catalogue) ⌝ }
-    ensures { λ r. ⌜ r ≡ pointsLeft t (now (own .entry)) (now (catalogue .entry)) ⌝ }
+    requires { Ranged (tasks_of t.records t.n) × Brief t own.now catalogue.now }
+    ensures { result ≡ points_left t own.now catalogue.now }
 {
     let rs = t.records;
     let n = t.n;
@@ -113,7 +105,7 @@ fn points_in_range(t: Table, own: &[u32], catalogue: &[u32]) -> PointsAnswer
 }
 
 pub fn point_check(t: Table, own: &[u32], catalogue: &[u32]) -> PointsAnswer
-    ensures { λ r. ⌜ r ≡ pointsAnswer t (now (own .entry)) (now (catalogue .entry)) ⌝ }
+    ensures { result ≡ points_answer t own.now catalogue.now }
 {
     let outcome = lengths::early_outcome(t, own, catalogue);
     match outcome {

@@ -1,20 +1,15 @@
 // Reading a cabinet file: the refusals in the paper's order, the table, and the region words.
-ghost use mathlib.Core.Path.{_≡_};
-ghost use mathlib.Core.List.{_++_};
-ghost use Prim.Native.Nat.{_≤_};
-ghost use lib.ListN.{length, drop};
-ghost use Rattle·paper.specs.File.{editionIn, tasksIn, wordsIn};
-ghost use Rattle·paper.specs.Refusals.{firstOf, fileAsks};
-ghost use Rattle·paper.specs.Answers.{noTable, tableFor, wordsFor, readAnswer, readOut};
-ghost use Rattle·paper.specs.declared.Outcome.the-variants.{Refused};
-ghost use Rattle·unpack.specs.Unpack.{Sized};
-ghost use Rattle·reader·specs.specs.Stages.{bodyAsks, Unpacked};
-use paper::Cabinet;
-use paper::Line;
-use paper::Outcome;
-use paper::ReadAnswer;
-use paper::Record;
-use paper::Refusal;
+#![tactic(auto)]
+
+ghost use Rattle.std.specs.Prelude.{◌≡◌, ◌++◌, ◌≤◌, length, drop};
+ghost use Rattle.paper.specs.File.{edition_in, tasks_in, words_in};
+ghost use Rattle.paper.specs.Refusals.{first_of, file_asks};
+ghost use Rattle.paper.specs.Answers.{no_table, table_for, words_for, read_answer, read_out};
+ghost use Rattle.paper.specs.declared.Outcome.TheVariants.{Refused};
+ghost use Rattle.unpack.specs.Unpack.{Sized};
+ghost use Rattle.reader.specs.Stages.{body_asks, Unpacked};
+
+use paper::{Cabinet, Line, Outcome, ReadAnswer, Record, Refusal};
 
 // Asks 7 to 12, of what was unpacked.
 fn body(
@@ -27,8 +22,8 @@ fn body(
     catalogue: &[u32],
     room: usize,
 ) -> Outcome
-    requires { ⌜ Unpacked (now file) edition n m rs (now own) ⌝ }
-    ensures { λ x. ⌜ x ≡ firstOf (bodyAsks (now (file .entry)) (now (catalogue .entry)) room) ⌝ }
+    requires { Unpacked file.now edition n m rs own.now }
+    ensures { result ≡ first_of (body_asks file.now catalogue.now room) }
 {
     let end = file.len() - layout::SEAL_BYTES;
     if !seal::is_sealed(file, end) {
@@ -53,7 +48,7 @@ fn body(
 }
 
 fn refused(r: Refusal) -> ReadAnswer
-    ensures { λ x. ⌜ (x .outcome ≡ Refused r) × (x .edition ≡ 0) × (x .table ≡ noTable) × (x .words ≡ 0) ⌝ }
+    ensures { (result.outcome ≡ Refused r) × (result.edition ≡ 0) × (result.table ≡ no_table) × (result.words ≡ 0) }
 {
     let t = unpack::no_table();
     ReadAnswer {
@@ -66,8 +61,8 @@ fn refused(r: Refusal) -> ReadAnswer
 
 // The words go to the front of the output; the rest of it stays.
 fn put_words(out: &mut [u32], ws: &[u32])
-    requires { ⌜ length (now ws) ≤ length (now out) ⌝ }
-    ensures { λ _. ⌜ now (out .exit) ≡ now (ws .entry) ++ drop (length (now (ws .entry))) (now (out .entry)) ⌝ }
+    requires { length ws.now ≤ length out.old }
+    ensures { out.new ≡ ws.now ++ drop (length ws.now) out.old }
 {
     let mut i: usize = 0;
     while i < ws.len() {
@@ -78,9 +73,9 @@ fn put_words(out: &mut [u32], ws: &[u32])
 
 // After the head: all is unpacked once and asked, and only then is the output written.
 fn rest(file: &[u8], catalogue: &[u32], out: &mut [u32]) -> ReadAnswer
-    requires { ⌜ Sized (now file) (editionIn (now file)) (tasksIn (now file)) (wordsIn (now file)) ⌝ }
-    ensures { λ r. ⌜ r ≡ tableFor (firstOf (bodyAsks (now (file .entry)) (now (catalogue .entry)) (length (now (out .entry))))) (now (file .entry)) ⌝ }
-    ensures { λ _. ⌜ now (out .exit) ≡ wordsFor (firstOf (bodyAsks (now (file .entry)) (now (catalogue .entry)) (length (now (out .entry))))) (now (file .entry)) (now (out .entry)) ⌝ }
+    requires { Sized file.now (edition_in file.now) (tasks_in file.now) (words_in file.now) }
+    ensures value { result ≡ table_for (first_of (body_asks file.now catalogue.now (length out.old))) file.now }
+    ensures out_after { out.new ≡ words_for (first_of (body_asks file.now catalogue.now (length out.old))) file.now out.old }
 {
     let edition = layout::edition_of(file);
     let n = layout::task_count(file);
@@ -112,8 +107,8 @@ pub fn read(
     catalogue: &[u32],
     out: &mut [u32],
 ) -> ReadAnswer
-    ensures { λ r. ⌜ r ≡ readAnswer (now (file .entry)) (cabinet .0) (line .0) (now (catalogue .entry)) (now (out .entry)) ⌝ }
-    ensures { λ _. ⌜ now (out .exit) ≡ readOut (now (file .entry)) (cabinet .0) (line .0) (now (catalogue .entry)) (now (out .entry)) ⌝ }
+    ensures value { result ≡ read_answer file.now cabinet.0 line.0 catalogue.now out.old }
+    ensures out_after { out.new ≡ read_out file.now cabinet.0 line.0 catalogue.now out.old }
 {
     let outcome = file_head::head(file, cabinet, line);
     match outcome {
@@ -124,7 +119,7 @@ pub fn read(
 
 // Asks 1, 2, 18, 3 to 11. There is room for the words of any file here, so that 12 is never the answer.
 pub fn file_outcome(file: &[u8], cabinet: Cabinet, line: Line, catalogue: &[u32]) -> Outcome
-    ensures { λ x. ⌜ x ≡ firstOf (fileAsks (now (file .entry)) (cabinet .0) (line .0) (now (catalogue .entry))) ⌝ }
+    ensures { result ≡ first_of (file_asks file.now cabinet.0 line.0 catalogue.now) }
 {
     let mut room = [0u32; paper::MOST_WORDS];
     let answer = read(file, cabinet, line, catalogue, &mut room);

@@ -1,23 +1,24 @@
 // The condition that refusal 11 asks, shared by all calls: the regions of a table.
-ghost use mathlib.Core.Path.{_≡_};
-ghost use Prim.Native.Nat.{_+_, _<_, _≤_, _^_};
-ghost use lib.ListN.{length, getD};
-ghost use Rattle·paper.specs.Vocabulary.{every};
-ghost use Rattle·paper.specs.Numbers.{mostTasks, mostWords, rec};
-ghost use Rattle·paper.specs.Regions.{listOf, wordsInRange, wordsSum, regionsHold, recordRegionsHold, allRegionsHold};
-use paper::Record;
-use paper::Source;
+
+#![tactic(auto)]
+
+ghost use Rattle.std.specs.Prelude.{◌≡◌, ◌+◌, ◌<◌, ◌≤◌, ◌^◌, length, get_or};
+ghost use Rattle.paper.specs.Vocabulary.{every};
+ghost use Rattle.paper.specs.Numbers.{most_tasks, most_words, rec};
+ghost use Rattle.paper.specs.Regions.{list_of, words_in_range, words_sum, regions_hold, record_regions_hold, all_regions_hold};
+
+use paper::{Record, Source};
 
 // The word at i, or 0 past the end.
 pub fn word(list: &[u32], i: usize) -> u32
-    ensures { λ x. ⌜ x ≡ getD (now (list .entry)) i 0 ⌝ }
+    ensures { result ≡ get_or list.now i 0 }
 {
     if i < list.len() { list[i] } else { 0 }
 }
 
 fn words_in_range(list: &[u32], first: usize, count: usize) -> bool
-    requires { ⌜ first + count < 2 ^ 31 ⌝ }
-    ensures { λ b. ⌜ b ≡ wordsInRange (now (list .entry)) first count ⌝ }
+    requires { first + count < 2 ^ 31 }
+    ensures { result ≡ words_in_range list.now first count }
 {
     let mut ok = true;
     let mut i: usize = 0;
@@ -29,8 +30,8 @@ fn words_in_range(list: &[u32], first: usize, count: usize) -> bool
 }
 
 fn words_sum(list: &[u32], first: usize, count: usize) -> u64
-    requires { ⌜ first + count < 2 ^ 31 ⌝ }
-    ensures { λ x. ⌜ x ≡ wordsSum (now (list .entry)) first count ⌝ }
+    requires { first + count < 2 ^ 31 }
+    ensures { result ≡ words_sum list.now first count }
 {
     let mut sum: u64 = 0;
     let mut i: usize = 0;
@@ -46,7 +47,7 @@ const MOST_PLACE: usize = 127;
 
 // The bounds come first, so that no count makes the loops long.
 fn regions_hold(list: &[u32], first: u32, count: u32, c: u32) -> bool
-    ensures { λ b. ⌜ b ≡ regionsHold (now (list .entry)) first count c ⌝ }
+    ensures { result ≡ regions_hold list.now first count c }
 {
     let from = first as usize;
     let many = count as usize;
@@ -71,7 +72,7 @@ fn source_regions_hold(
     count: u32,
     c: u32,
 ) -> bool
-    ensures { λ b. ⌜ b ≡ regionsHold (listOf source (now (own .entry)) (now (catalogue .entry))) first count c ⌝ }
+    ensures { result ≡ regions_hold (list_of source own.now catalogue.now) first count c }
 {
     match source {
         Source::Own => regions_hold(own, first, count, c),
@@ -80,7 +81,7 @@ fn source_regions_hold(
 }
 
 pub fn record_regions_hold(own: &[u32], catalogue: &[u32], r: Record) -> bool
-    ensures { λ b. ⌜ b ≡ recordRegionsHold (now (own .entry)) (now (catalogue .entry)) r ⌝ }
+    ensures { result ≡ record_regions_hold own.now catalogue.now r }
 {
     let source = r.source;
     source_regions_hold(own, catalogue, source, r.first, r.count, r.cost)
@@ -92,8 +93,8 @@ fn records_regions_hold(
     own: &[u32],
     catalogue: &[u32],
 ) -> bool
-    requires { ⌜ n ≤ mostTasks ⌝ }
-    ensures { λ b. ⌜ b ≡ every n (λ k. recordRegionsHold (now (own .entry)) (now (catalogue .entry)) (rec rs k)) ⌝ }
+    requires { n ≤ most_tasks }
+    ensures { result ≡ every n (λ k. record_regions_hold own.now catalogue.now (rec rs k)) }
 {
     let mut ok = true;
     let mut k: usize = 0;
@@ -110,8 +111,8 @@ pub fn all_regions_hold(
     own: &[u32],
     catalogue: &[u32],
 ) -> bool
-    requires { ⌜ (n ≤ mostTasks) × (length (now own) ≤ mostWords) ⌝ }
-    ensures { λ b. ⌜ b ≡ allRegionsHold rs n (now (own .entry)) (now (catalogue .entry)) ⌝ }
+    requires { (n ≤ most_tasks) × (length own.now ≤ most_words) }
+    ensures { result ≡ all_regions_hold rs n own.now catalogue.now }
 {
     let m = own.len();
     words_in_range(own, 0, m) & records_regions_hold(rs, n, own, catalogue)

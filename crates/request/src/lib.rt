@@ -1,14 +1,12 @@
 // The pieces of a request's body, and a plate, big-endian. Past the end every byte reads as 0: a request is whole exactly when
 // its last piece ends where the body does, since no piece that lies past the end can.
-ghost use Prim.Native.Nat.{_+_, _<_, _≤_, _^_};
-ghost use Rattle·fronts.specs.Front.{Front};
-ghost use Rattle·paper.specs.Numbers.{mostTasks};
-use paper::Cabinet;
-use paper::Line;
-use paper::MOST_TASKS;
-use paper::Record;
-use paper::Source;
-use paper::Table;
+#![tactic(auto)]
+
+ghost use Rattle.std.specs.Prelude.{◌+◌, ◌<◌, ◌≤◌, ◌^◌};
+ghost use Rattle.fronts.specs.Front.{Front};
+ghost use Rattle.paper.specs.Numbers.{most_tasks};
+
+use paper::{Cabinet, Line, MOST_TASKS, Record, Source, Table};
 
 // A plate: cabinet 24, line 16. A program that reads a plate and a file reads no more than the room for them: the longest
 // file is shorter, so that bytes past it change nothing.
@@ -22,9 +20,9 @@ pub const LONGEST_BODY: usize = 4096;
 pub const MOST_BODY_WORDS: usize = LONGEST_BODY / 4;
 
 // The longest body of a request of a kind: one number for all of them; a kind that is to have another gets it here. `ask` has
-// room for LONGEST_BODY bytes and would cut a longer body off, so no kind's limit lies above that. The number stands in the promise again, as a promise can't name a constant of the code.
+// room for LONGEST_BODY bytes and would cut a longer body off, so no kind's limit lies above that. The promise says the number itself.
 pub fn longest_body(_kind: u8) -> usize
-    ensures { λ r. ⌜ r ≤ 4096 ⌝ }
+    ensures { result ≤ 4096 }
 {
     LONGEST_BODY
 }
@@ -36,14 +34,14 @@ pub const FILL_WORD: u32 = 0xA5A5_A5A5;
 
 // A byte as a number.
 fn wide(b: u8) -> u32
-    ensures { λ r. ⌜ r < 256 ⌝ }
+    ensures { result < 256 }
 {
     b as u32
 }
 
 // The byte at a place, or 0.
 fn byte_at(s: &[u8], at: usize) -> u32
-    ensures { λ r. ⌜ r < 256 ⌝ }
+    ensures { result < 256 }
 {
     if at < s.len() {
         return wide(s[at]);
@@ -52,8 +50,8 @@ fn byte_at(s: &[u8], at: usize) -> u32
 }
 
 pub fn two_at(s: &[u8], at: usize) -> usize
-    requires { ⌜ at < 2 ^ 32 ⌝ }
-    ensures { λ r. ⌜ r < 65536 ⌝ }
+    requires { at < 2 ^ 32 }
+    ensures { result < 65536 }
 {
     let high = byte_at(s, at) as usize;
     let low = byte_at(s, at + 1) as usize;
@@ -61,7 +59,7 @@ pub fn two_at(s: &[u8], at: usize) -> usize
 }
 
 fn four_at(s: &[u8], at: usize) -> u32
-    requires { ⌜ at < 2 ^ 32 ⌝ }
+    requires { at < 2 ^ 32 }
 {
     let a = byte_at(s, at);
     let b = byte_at(s, at + 1);
@@ -72,22 +70,22 @@ fn four_at(s: &[u8], at: usize) -> u32
 
 // Where a piece of words ends that starts at a place: two bytes say how many, four bytes each.
 pub fn words_end(s: &[u8], at: usize) -> usize
-    requires { ⌜ at < 2 ^ 24 ⌝ }
-    ensures { λ r. ⌜ r < at + 2 ^ 19 ⌝ }
+    requires { at < 2 ^ 24 }
+    ensures { result < at + 2 ^ 19 }
 {
     at + 2 + two_at(s, at) * 4
 }
 
 pub fn bytes_end(s: &[u8], at: usize) -> usize
-    requires { ⌜ at < 2 ^ 24 ⌝ }
-    ensures { λ r. ⌜ (at + 2 ≤ r) × (r < at + 2 ^ 19) ⌝ }
+    requires { at < 2 ^ 24 }
+    ensures { (at + 2 ≤ result) × (result < at + 2 ^ 19) }
 {
     at + 2 + two_at(s, at)
 }
 
 // The bytes of a piece; none where the body ends before the piece does.
 pub fn bytes_at(s: &[u8], at: usize) -> &[u8]
-    requires { ⌜ at < 2 ^ 24 ⌝ }
+    requires { at < 2 ^ 24 }
 {
     let start = at + 2;
     let end = bytes_end(s, at);
@@ -99,15 +97,15 @@ pub fn bytes_at(s: &[u8], at: usize) -> &[u8]
 
 // Word k of a piece, counted from 0.
 fn word_at(s: &[u8], at: usize, k: usize) -> u32
-    requires { ⌜ (at < 2 ^ 24) × (k < 65536) ⌝ }
+    requires { (at < 2 ^ 24) × (k < 65536) }
 {
     four_at(s, at + 2 + k * 4)
 }
 
 // The words of a piece, put at the front of a lent list as far as that reaches.
 pub fn take_words(s: &[u8], at: usize, out: &mut [u32]) -> usize
-    requires { ⌜ at < 2 ^ 24 ⌝ }
-    ensures { λ r. ⌜ Front r (now (out .exit)) ⌝ }
+    requires { at < 2 ^ 24 }
+    ensures { Front result out.new }
 {
     let end = fronts::of_words(out, two_at(s, at));
     let mut i: usize = 0;
@@ -119,13 +117,13 @@ pub fn take_words(s: &[u8], at: usize, out: &mut [u32]) -> usize
 }
 
 pub fn cabinet_at(s: &[u8], at: usize) -> Cabinet
-    requires { ⌜ at < 2 ^ 32 ⌝ }
+    requires { at < 2 ^ 32 }
 {
     Cabinet(four_at(s, at))
 }
 
 pub fn line_at(s: &[u8], at: usize) -> Line
-    requires { ⌜ at < 2 ^ 32 ⌝ }
+    requires { at < 2 ^ 32 }
 {
     Line(two_at(s, at) as u16)
 }
@@ -164,7 +162,7 @@ fn source_of(word: u32) -> Source {
 }
 
 fn record_at(s: &[u8], at: usize) -> Record
-    requires { ⌜ at < 2 ^ 24 ⌝ }
+    requires { at < 2 ^ 24 }
 {
     let source = source_of(four_at(s, at + 20));
     Record {
@@ -188,13 +186,13 @@ pub const TABLE_BYTES: usize = 1 + RECORD_BYTES * MOST_TASKS;
 
 // Record k + 1 of a table.
 fn table_record(s: &[u8], at: usize, k: usize) -> Record
-    requires { ⌜ (at < 2 ^ 16) × (k < mostTasks) ⌝ }
+    requires { (at < 2 ^ 16) × (k < most_tasks) }
 {
     record_at(s, at + 1 + k * RECORD_BYTES)
 }
 
 pub fn table_at(s: &[u8], at: usize) -> Table
-    requires { ⌜ at < 2 ^ 16 ⌝ }
+    requires { at < 2 ^ 16 }
 {
     let n = byte_at(s, at) as usize;
     let first = table_record(s, at, 0);

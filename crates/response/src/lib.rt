@@ -1,35 +1,25 @@
 // Response times and the pass test, over columns of numbers.
-use columns::Column;
-use columns::Numbers;
-use columns::Tasks;
-use jobs::Span;
-use jobs::Stand;
-use paper::HORIZON;
-use paper::MOST_TASKS;
-use paper::MOST_TICKS;
-use paper::Outcome;
-use paper::Response;
-use paper::Table;
-use paper::Time;
-use paper::TimesAnswer;
-ghost use mathlib.Core.Path.{_≡_};
-ghost use mathlib.Core.Bool.{cond};
-ghost use Prim.Native.Nat.{_+_, _<_, _≤_};
-ghost use lib.Dec.{ltb};
-ghost use lib.ListN.{replicate};
-ghost use Rattle·paper.specs.Numbers.{mostTasks, horizon, perTask};
-ghost use Rattle·paper.specs.Answers.{noTime, timesAnswer};
-ghost use Rattle·paper.specs.Analysis.{taskPasses, passes};
-ghost use Rattle·columns.specs.Columns.{tasksBy, assignedBy, rankedBy, Ranged, Placed};
-ghost use Rattle·jobs.specs.Stands.{standBy, Stands};
-ghost use Rattle·response·specs.specs.Bounds.{tooLate, bounded, worstWith, responseOf};
+
+#![tactic(auto)]
+
+ghost use Rattle.std.specs.Prelude.{◌≡◌, cond, ◌+◌, ◌<◌, ◌≤◌, ltb, replicate};
+ghost use Rattle.paper.specs.Numbers.{most_tasks, horizon, per_task};
+ghost use Rattle.paper.specs.Answers.{no_time, times_answer};
+ghost use Rattle.paper.specs.Analysis.{task_passes, passes};
+ghost use Rattle.columns.specs.Columns.{tasks_by, assigned_by, ranked_by, Ranged, Placed};
+ghost use Rattle.jobs.specs.Stands.{stand_by, Stands};
+ghost use Rattle.response.specs.Bounds.{too_late, bounded, worst_with, response_of};
+
+use columns::{Column, Numbers, Tasks};
+use jobs::{Span, Stand};
+use paper::{HORIZON, MOST_TASKS, MOST_TICKS, Outcome, Response, Table, Time, TimesAnswer};
 
 // No response time lies above it: no F lies above the horizon, and no J above the most ticks.
 const LATEST: u64 = HORIZON + MOST_TICKS as u64;
 
 // No response time at or below a bound: the job beside it is 0 and means nothing.
 fn beyond() -> Response
-    ensures { λ r. ⌜ r ≡ tooLate ⌝ }
+    ensures { result ≡ too_late }
 {
     Response {
         time: Time::Beyond,
@@ -39,7 +29,7 @@ fn beyond() -> Response
 
 // The job that reached the larger of two values: `first` reached `largest`, and k, which comes after it, reaches r.
 fn first_reaching(largest: u64, first: u64, r: u64, k: u64) -> u64
-    ensures { λ v. ⌜ v ≡ cond (ltb largest r) k first ⌝ }
+    ensures { result ≡ cond (ltb largest r) k first }
 {
     if largest < r { k } else { first }
 }
@@ -47,8 +37,8 @@ fn first_reaching(largest: u64, first: u64, r: u64, k: u64) -> u64
 // The largest F + J - k T of the jobs below `count` with the first job that reaches it, or beyond where it is above `most`. Stops
 // at the first job that is.
 fn worst(n: usize, y: &Tasks, p: &Numbers, s: Stand, count: u64, most: u64) -> Response
-    requires { ⌜ Ranged (tasksBy n (now y)) × Stands (tasksBy n (now y)) (rankedBy (now p)) s × (count ≤ horizon + 1) ⌝ }
-    ensures { λ r. ⌜ r ≡ bounded most (worstWith (tasksBy n (now (y .entry))) (standBy (rankedBy (now (p .entry))) s) (s .i) count) ⌝ }
+    requires { Ranged (tasks_by n y.now) × Stands (tasks_by n y.now) (ranked_by p.now) s × (count ≤ horizon + 1) }
+    ensures { result ≡ bounded most (worst_with (tasks_by n y.now) (stand_by (ranked_by p.now) s) s.i count) }
 {
     let cost = columns::cost(y, s.i);
     let period = columns::period(y, s.i);
@@ -79,8 +69,8 @@ fn worst(n: usize, y: &Tasks, p: &Numbers, s: Stand, count: u64, most: u64) -> R
 
 // R of task i with its job, or beyond where it is above `most`.
 fn response(n: usize, y: &Tasks, p: &Numbers, h: &Numbers, i: usize, most: u64) -> Response
-    requires { ⌜ Ranged (tasksBy n (now y)) × Placed n (assignedBy (now p) (now h)) × (i < n) ⌝ }
-    ensures { λ r. ⌜ r ≡ bounded most (responseOf (tasksBy n (now (y .entry))) (assignedBy (now (p .entry)) (now (h .entry))) i) ⌝ }
+    requires { Ranged (tasks_by n y.now) × Placed n (assigned_by p.now h.now) × (i < n) }
+    ensures { result ≡ bounded most (response_of (tasks_by n y.now) (assigned_by p.now h.now) i) }
 {
     let s = jobs::stand_of(n, y, p, h, i);
     let count = jobs::job_count(n, y, p, s);
@@ -92,8 +82,8 @@ fn response(n: usize, y: &Tasks, p: &Numbers, h: &Numbers, i: usize, most: u64) 
 
 // R of task i is at most its deadline.
 fn task_passes(n: usize, y: &Tasks, p: &Numbers, h: &Numbers, i: usize) -> bool
-    requires { ⌜ Ranged (tasksBy n (now y)) × Placed n (assignedBy (now p) (now h)) × (i < n) ⌝ }
-    ensures { λ r. ⌜ r ≡ taskPasses (tasksBy n (now (y .entry))) (assignedBy (now (p .entry)) (now (h .entry))) i ⌝ }
+    requires { Ranged (tasks_by n y.now) × Placed n (assigned_by p.now h.now) × (i < n) }
+    ensures { result ≡ task_passes (tasks_by n y.now) (assigned_by p.now h.now) i }
 {
     let d = columns::deadline(y, i);
     let r = response(n, y, p, h, i, d);
@@ -106,8 +96,8 @@ fn task_passes(n: usize, y: &Tasks, p: &Numbers, h: &Numbers, i: usize) -> bool
 
 // Every response time exists and is at most its deadline. Stops at the first task that fails.
 pub fn passes(n: usize, y: &Tasks, p: &Numbers, h: &Numbers) -> bool
-    requires { ⌜ Ranged (tasksBy n (now y)) × Placed n (assignedBy (now p) (now h)) ⌝ }
-    ensures { λ r. ⌜ r ≡ passes (tasksBy n (now (y .entry))) (assignedBy (now (p .entry)) (now (h .entry))) ⌝ }
+    requires { Ranged (tasks_by n y.now) × Placed n (assigned_by p.now h.now) }
+    ensures { result ≡ passes (tasks_by n y.now) (assigned_by p.now h.now) }
 {
     let mut i = 0;
     while i < n {
@@ -120,7 +110,7 @@ pub fn passes(n: usize, y: &Tasks, p: &Numbers, h: &Numbers) -> bool
 }
 
 fn no_times() -> [Response; MOST_TASKS]
-    ensures { λ r. ⌜ r ≡ replicate mostTasks noTime ⌝ }
+    ensures { result ≡ replicate most_tasks no_time }
 {
     let none = Response {
         time: Time::At(0),
@@ -131,8 +121,8 @@ fn no_times() -> [Response; MOST_TASKS]
 
 // R of each of the n tasks with its job, in front.
 fn all_responses(n: usize, y: &Tasks, p: &Numbers, h: &Numbers) -> [Response; MOST_TASKS]
-    requires { ⌜ Ranged (tasksBy n (now y)) × Placed n (assignedBy (now p) (now h)) ⌝ }
-    ensures { λ r. ⌜ r ≡ perTask n (responseOf (tasksBy n (now (y .entry))) (assignedBy (now (p .entry)) (now (h .entry)))) noTime ⌝ }
+    requires { Ranged (tasks_by n y.now) × Placed n (assigned_by p.now h.now) }
+    ensures { result ≡ per_task n (response_of (tasks_by n y.now) (assigned_by p.now h.now)) no_time }
 {
     let mut times = no_times();
     let mut i = 0;
@@ -145,7 +135,7 @@ fn all_responses(n: usize, y: &Tasks, p: &Numbers, h: &Numbers) -> [Response; MO
 
 // Response times of a table.
 pub fn response_times(t: Table) -> TimesAnswer
-    ensures { λ r. ⌜ r ≡ timesAnswer t ⌝ }
+    ensures { result ≡ times_answer t }
 {
     let outcome = outcomes::times_outcome(t);
     match outcome {

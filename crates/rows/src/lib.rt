@@ -1,12 +1,13 @@
 // The numbers of a row, at the front of an array that has room for the longest row.
-ghost use mathlib.Core.Path.{_≡_};
-ghost use mathlib.Core.List.{_++_};
-ghost use Prim.Native.Nat.{suc, _+_, _≤_, _<_};
-ghost use lib.ListN.{length, take, drop, getD};
-ghost use Rattle·paper.specs.Numbers.{mostTasks, perTask};
-ghost use Rattle·paper.specs.Rows.{rowSize, placeOf, rowHolds};
-ghost use Rattle·rows·specs.specs.Places.{freshAt, fitsAt};
-ghost use Rattle·rows·specs.specs.Columns.{Unpacked};
+
+#![tactic(auto)]
+
+ghost use Rattle.std.specs.Prelude.{◌≡◌, ◌++◌, suc, ◌+◌, ◌≤◌, ◌<◌, length, take, drop, get_or};
+ghost use Rattle.paper.specs.Numbers.{most_tasks, per_task};
+ghost use Rattle.paper.specs.Rows.{row_size, place_of, row_holds};
+ghost use Rattle.rows.specs.Places.{fresh_at, fits_at};
+ghost use Rattle.rows.specs.Columns.{Unpacked};
+
 use columns::Numbers;
 use paper::MOST_TASKS;
 
@@ -17,15 +18,15 @@ pub const MOST_NUMBERS: usize = 2 * MOST_TASKS;
 pub type Digits = [u8; MOST_NUMBERS];
 
 pub fn wide(x: u8) -> u64
-    ensures { λ r. ⌜ (r ≡ x) × (r ≤ 255) ⌝ }
+    ensures { (result ≡ x) × (result ≤ 255) }
 {
     x as u64
 }
 
 // Where v stands first among the first n numbers, counted from 1; n where it does not.
 fn place_of(n: usize, d: &Digits, v: u64) -> u64
-    requires { ⌜ (n ≤ mostTasks) × (length (now d) ≡ rowSize mostTasks) ⌝ }
-    ensures { λ r. ⌜ r ≡ placeOf (take n (now (d .entry))) v ⌝ }
+    requires { (n ≤ most_tasks) × (length d.now ≡ row_size most_tasks) }
+    ensures { result ≡ place_of (take n d.now) v }
 {
     let mut i: usize = 0;
     while i < n {
@@ -39,8 +40,8 @@ fn place_of(n: usize, d: &Digits, v: u64) -> u64
 
 // The n numbers from place `from` on: the record numbers from highest priority to lowest, or the thresholds of records 1 to n.
 pub fn numbers_from(n: usize, d: &Digits, from: usize) -> Numbers
-    requires { ⌜ (n ≤ mostTasks) × ((from ≤ n) × (length (now d) ≡ rowSize mostTasks)) ⌝ }
-    ensures { λ r. ⌜ r ≡ perTask n (λ k. getD (now (d .entry)) (from + k) 0) 0 ⌝ }
+    requires { (n ≤ most_tasks) × ((from ≤ n) × (length d.now ≡ row_size most_tasks)) }
+    ensures { result ≡ per_task n (λ k. get_or d.now (from + k) 0) 0 }
 {
     let mut xs = [0u64; MOST_TASKS];
     let mut k: usize = 0;
@@ -53,8 +54,8 @@ pub fn numbers_from(n: usize, d: &Digits, from: usize) -> Numbers
 
 // The priorities of records 1 to n.
 pub fn priorities_of(n: usize, d: &Digits) -> Numbers
-    requires { ⌜ (n ≤ mostTasks) × (length (now d) ≡ rowSize mostTasks) ⌝ }
-    ensures { λ r. ⌜ r ≡ perTask n (λ k. placeOf (take n (now (d .entry))) (suc k)) 0 ⌝ }
+    requires { (n ≤ most_tasks) × (length d.now ≡ row_size most_tasks) }
+    ensures { result ≡ per_task n (λ k. place_of (take n d.now) (suc k)) 0 }
 {
     let mut xs = [0u64; MOST_TASKS];
     let mut k: usize = 0;
@@ -67,8 +68,8 @@ pub fn priorities_of(n: usize, d: &Digits) -> Numbers
 
 // Whether the numbers at the front are a well-formed row. Its priorities and thresholds are lent: who tests a row goes on with them.
 pub fn front_holds(n: usize, d: &Digits, p: &Numbers, h: &Numbers) -> bool
-    requires { ⌜ (n ≤ mostTasks) × ((length (now d) ≡ rowSize mostTasks) × Unpacked n (now d) (now p) (now h)) ⌝ }
-    ensures { λ r. ⌜ r ≡ rowHolds n (take (rowSize n) (now (d .entry))) ⌝ }
+    requires { (n ≤ most_tasks) × ((length d.now ≡ row_size most_tasks) × Unpacked n d.now p.now h.now) }
+    ensures { result ≡ row_holds n (take (row_size n) d.now) }
 {
     let order = numbers_from(n, d, 0);
     checks::each_once(&order, n) & checks::thresholds_hold(p, h, n)
@@ -76,8 +77,8 @@ pub fn front_holds(n: usize, d: &Digits, p: &Numbers, h: &Numbers) -> bool
 
 // Whether a row is well formed.
 pub fn row_holds(n: usize, row: &[u8]) -> bool
-    requires { ⌜ n ≤ mostTasks ⌝ }
-    ensures { λ r. ⌜ r ≡ rowHolds n (now (row .entry)) ⌝ }
+    requires { n ≤ most_tasks }
+    ensures { result ≡ row_holds n row.now }
 {
     if row.len() != 2 * n {
         return false;
@@ -90,8 +91,8 @@ pub fn row_holds(n: usize, row: &[u8]) -> bool
 
 // Whether the number at place k is none of those before it.
 fn fresh(d: &Digits, k: usize) -> bool
-    requires { ⌜ (k < rowSize mostTasks) × (length (now d) ≡ rowSize mostTasks) ⌝ }
-    ensures { λ r. ⌜ r ≡ freshAt (now (d .entry)) k ⌝ }
+    requires { (k < row_size most_tasks) × (length d.now ≡ row_size most_tasks) }
+    ensures { result ≡ fresh_at d.now k }
 {
     let x = d[k];
     let mut ok = true;
@@ -105,8 +106,8 @@ fn fresh(d: &Digits, k: usize) -> bool
 
 // Whether the number at place k may stand there after those before it.
 pub fn fits(n: usize, d: &Digits, k: usize) -> bool
-    requires { ⌜ (n ≤ mostTasks) × ((k < rowSize n) × (length (now d) ≡ rowSize mostTasks)) ⌝ }
-    ensures { λ r. ⌜ r ≡ fitsAt n (now (d .entry)) k ⌝ }
+    requires { (n ≤ most_tasks) × ((k < row_size n) × (length d.now ≡ row_size most_tasks)) }
+    ensures { result ≡ fits_at n d.now k }
 {
     if k < n {
         return fresh(d, k);
@@ -117,8 +118,8 @@ pub fn fits(n: usize, d: &Digits, k: usize) -> bool
 
 // The numbers of a row, and zeros after them.
 pub fn load(row: &[u8]) -> Digits
-    requires { ⌜ length (now row) ≤ rowSize mostTasks ⌝ }
-    ensures { λ r. ⌜ (length r ≡ rowSize mostTasks) × (take (length (now (row .entry))) r ≡ now (row .entry)) ⌝ }
+    requires { length row.now ≤ row_size most_tasks }
+    ensures { (length result ≡ row_size most_tasks) × (take (length row.now) result ≡ row.now) }
 {
     let mut d = [0u8; MOST_NUMBERS];
     let mut i: usize = 0;
@@ -131,8 +132,8 @@ pub fn load(row: &[u8]) -> Digits
 
 // Writes the first k numbers of d over the first k of out.
 pub fn store(out: &mut [u8], d: &Digits, k: usize)
-    requires { ⌜ (k ≤ length (now out)) × ((k ≤ length (now d)) × (k ≤ rowSize mostTasks)) ⌝ }
-    ensures { λ _. ⌜ now (out .exit) ≡ take k (now (d .entry)) ++ drop k (now (out .entry)) ⌝ }
+    requires { (k ≤ length out.old) × ((k ≤ length d.now) × (k ≤ row_size most_tasks)) }
+    ensures { out.new ≡ take k d.now ++ drop k out.old }
 {
     let mut i: usize = 0;
     while i < k {

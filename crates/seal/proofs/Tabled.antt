@@ -1,66 +1,66 @@
 -- The seal from a table. A byte is moved through by one look into the table, because the register's lower byte only moves up meanwhile: the generator is added where a one falls out, and in eight moves no bit of the lower byte falls out.
-use mathlib.Core.Path.{_≡_, sym, ap, _∙_}
-use mathlib.Core.Logic.{by-cases}
+use mathlib.Core.Path.{◌≡◌, sym, ap, ◌∙◌}
+use mathlib.Core.Logic.{by_cases}
 use mathlib.Core.Bool.{true}
 use mathlib.Core.List.{List}
-use Prim.Native.Nat.{ℕ, zero, suc, _+_, _-_, _*_, _/_, _%_, _^_, _<_}
-use native.Mathlib.Decide.{decLt}
-use native.Mathlib.Nat.{add-zero, zero-add, mul-one, mul-assoc, div-add-mod', pow-suc}
+use Prim.Native.Nat.{ℕ, zero, suc, ◌+◌, ◌-◌, ◌*◌, ◌/◌, ◌%◌, ◌^◌, ◌<◌}
+use native.Mathlib.Decide.{dec_lt}
+use native.Mathlib.Nat.{add-zero, zero-add, mul-one, mul_assoc, div-add-mod', pow-suc}
 use native.Mathlib.Omega.{arith}
 use borrow.Author.Tests.{lt-ltb, le-ltb, eqb-true}
-use lib.ListN.{getD}
-use lib.Bits.{bitXor, xor-zero-r, xor-comm, xor-block, xor-shifted, xor-lt}
-use Rattle·paper.proofs.Tests.{every-says}
-use Rattle·paper.specs.Seal.{generator, sealBit, sealBits, sealByte}
-use Rattle·seal·specs.specs.Tabled.{entries, moved, tabled}
-use Rattle·seal·proofs.proofs.Seal.{bits-lt}
-use Rattle·seal·proofs.proofs.Xor.{xor-swap, xor-twice}
+use lib.ListN.{get_or}
+use lib.Bits.{bit_xor, xor_zero_r, xor_comm, xor_block, xor_shifted, xor_lt}
+use Rattle.paper.proofs.Tests.{every_says}
+use Rattle.paper.specs.Seal.{generator, seal_bit, seal_bits, seal_byte}
+use Rattle.seal.specs.Tabled.{entries, moved, tabled}
+use Rattle.seal.proofs.Seal.{bits_lt}
+use Rattle.seal.proofs.Xor.{xor_swap, xor_twice}
 
 -- a table that passes the test holds the rule at each entry
-pub entry : (t : List ℕ) → tabled t ≡ true → (k : ℕ) → k < entries → getD t k 0 ≡ moved k
+pub entry : (t : List ℕ) → tabled t ≡ true → (k : ℕ) → k < entries → get_or t k 0 ≡ moved k
 unfolding tabled
-entry t e k h = eqb-true _ _ (every-says entries _ e k h)
+entry t e k h = eqb-true _ _ (every_says entries _ e k h)
 
 -- what is added below bit 15 leaves it as it is
-top-alone : (y l : ℕ) → y < 2 ^ 15 → l < 2 ^ 15 → bitXor (0x8000 + y) l ≡ 0x8000 + bitXor y l
-top-alone y l hy hl = simp zero-add at (xor-block 15 1 0 y l hy hl)
+top_alone : (y l : ℕ) → y < 2 ^ 15 → l < 2 ^ 15 → bit_xor (0x8000 + y) l ≡ 0x8000 + bit_xor y l
+top_alone y l hy hl = simp zero-add at (xor_block 15 1 0 y l hy hl)
 
 -- one move: what is added below the highest bit moves up beside it
-bit-adds : (x l : ℕ) → x < 2 ^ 16 → l < 2 ^ 15 → sealBit (bitXor x l) ≡ bitXor (sealBit x) (l * 2)
-unfolding sealBit
-bit-adds x l hx hl = by-cases (decLt x 0x8000)
+bit_adds : (x l : ℕ) → x < 2 ^ 16 → l < 2 ^ 15 → seal_bit (bit_xor x l) ≡ bit_xor (seal_bit x) (l * 2)
+unfolding seal_bit
+bit_adds x l hx hl = by_cases (dec_lt x 0x8000)
     (λ (h : x < 0x8000).
-    let s : bitXor x l < 2 ^ 15 = xor-lt 15 x l (omega arith) hl in
-    rw (lt-ltb x 0x8000 h, lt-ltb (bitXor x l) 0x8000 (omega arith)) (sym (xor-twice x l)))
+    let s : bit_xor x l < 2 ^ 15 = xor_lt 15 x l (omega arith) hl in
+    rw (lt-ltb x 0x8000 h, lt-ltb (bit_xor x l) 0x8000 (omega arith)) (sym (xor_twice x l)))
     (λ h.
     let y = x - 0x8000 in
     let x-is : x ≡ 0x8000 + y = omega arith in
-    let e : bitXor x l ≡ 0x8000 + bitXor y l = ap (λ (z : ℕ). bitXor z l) x-is ∙ top-alone y l (omega arith) hl in
+    let e : bit_xor x l ≡ 0x8000 + bit_xor y l = ap (λ (z : ℕ). bit_xor z l) x-is ∙ top_alone y l (omega arith) hl in
     let z : x * 2 - 0x10000 ≡ y * 2 = omega arith in
-    let w : bitXor x l * 2 - 0x10000 ≡ bitXor y l * 2 = omega arith in
-    rw (le-ltb x 0x8000 (omega arith), le-ltb (bitXor x l) 0x8000 (omega arith), z, w)
-    (ap (λ (v : ℕ). bitXor v generator) (sym (xor-twice y l)) ∙ xor-swap (y * 2) (l * 2) generator))
+    let w : bit_xor x l * 2 - 0x10000 ≡ bit_xor y l * 2 = omega arith in
+    rw (le-ltb x 0x8000 (omega arith), le-ltb (bit_xor x l) 0x8000 (omega arith), z, w)
+    (ap (λ (v : ℕ). bit_xor v generator) (sym (xor_twice y l)) ∙ xor_swap (y * 2) (l * 2) generator))
 
 -- k moves, as long as nothing of what is added falls out
-pub bits-add : (k x l : ℕ) → x < 2 ^ 16 → l * 2 ^ k < 2 ^ 16 → sealBits k (bitXor x l) ≡ bitXor (sealBits k x) (l * 2 ^ k)
-unfolding sealBits
-bits-add zero x l hx hl = ap (bitXor x) (sym (mul-one l))
-bits-add (suc k) x l hx hl =
-    let e : l * 2 ^ suc k ≡ l * 2 ^ k * 2 = ap (λ (p : ℕ). l * p) (pow-suc 2 k) ∙ sym (mul-assoc l (2 ^ k) 2) in
+pub bits_add : (k x l : ℕ) → x < 2 ^ 16 → l * 2 ^ k < 2 ^ 16 → seal_bits k (bit_xor x l) ≡ bit_xor (seal_bits k x) (l * 2 ^ k)
+unfolding seal_bits
+bits_add zero x l hx hl = ap (bit_xor x) (sym (mul-one l))
+bits_add (suc k) x l hx hl =
+    let e : l * 2 ^ suc k ≡ l * 2 ^ k * 2 = ap (λ (p : ℕ). l * p) (pow-suc 2 k) ∙ sym (mul_assoc l (2 ^ k) 2) in
     let m : l * 2 ^ k < 2 ^ 15 = omega arith in
-    rw (e, bits-add k x l hx (omega arith)) (bit-adds (sealBits k x) (l * 2 ^ k) (bits-lt k x hx) m)
+    rw (e, bits_add k x l hx (omega arith)) (bit_adds (seal_bits k x) (l * 2 ^ k) (bits_lt k x hx) m)
 
 -- what is added to the upper of two bytes leaves the lower one beside it
-upper-adds : (h l b : ℕ) → l < 2 ^ 8 → bitXor (h * 256 + l) (b * 256) ≡ bitXor (bitXor h b * 256) l
-upper-adds h l b hl =
-    simp (add-zero, xor-zero-r) at (xor-block 8 h b l 0 hl (omega arith)) ∙ sym (xor-shifted (bitXor h b) 8 l hl)
+upper_adds : (h l b : ℕ) → l < 2 ^ 8 → bit_xor (h * 256 + l) (b * 256) ≡ bit_xor (bit_xor h b * 256) l
+upper_adds h l b hl =
+    simp (add-zero, xor_zero_r) at (xor_block 8 h b l 0 hl (omega arith)) ∙ sym (xor_shifted (bit_xor h b) 8 l hl)
 
 -- a byte: with the register's upper byte it says what falls out, and the lower one moves up
-pub byte-adds : (c b : ℕ) → c < 2 ^ 16 → b < 2 ^ 8 → bitXor (c % 256 * 256) (moved (bitXor (c / 256) b)) ≡ sealByte c b
-unfolding sealByte
-byte-adds c b hc hb =
-    let k = bitXor (c / 256) b in
+pub byte_adds : (c b : ℕ) → c < 2 ^ 16 → b < 2 ^ 8 → bit_xor (c % 256 * 256) (moved (bit_xor (c / 256) b)) ≡ seal_byte c b
+unfolding seal_byte
+byte_adds c b hc hb =
+    let k = bit_xor (c / 256) b in
     let l = c % 256 in
-    let s : k < 2 ^ 8 = xor-lt 8 (c / 256) b (omega arith) hb in
-    let e : bitXor c (b * 256) ≡ bitXor (k * 256) l = ap (λ (x : ℕ). bitXor x (b * 256)) (sym (div-add-mod' c 256)) ∙ upper-adds (c / 256) l b (omega arith) in
-    rw e (xor-comm (l * 256) (moved k) ∙ sym (bits-add 8 (k * 256) l (omega arith) (omega arith)))
+    let s : k < 2 ^ 8 = xor_lt 8 (c / 256) b (omega arith) hb in
+    let e : bit_xor c (b * 256) ≡ bit_xor (k * 256) l = ap (λ (x : ℕ). bit_xor x (b * 256)) (sym (div-add-mod' c 256)) ∙ upper_adds (c / 256) l b (omega arith) in
+    rw e (xor_comm (l * 256) (moved k) ∙ sym (bits_add 8 (k * 256) l (omega arith) (omega arith)))

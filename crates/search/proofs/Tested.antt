@@ -1,38 +1,38 @@
 -- The test of a full row, on the columns of its digits.
-use Prim.Native.Nat.{ℕ, suc, _<_}
-use mathlib.Core.Path.{_≡_, sym, _∙_}
+use Prim.Native.Nat.{ℕ, suc, ◌<◌}
+use mathlib.Core.Path.{◌≡◌, sym, ◌∙◌}
 use mathlib.Core.Bool.{Bool, true, false}
 use mathlib.Core.List.{List}
 use lib.ListN.{take}
-use Rattle·paper.specs.Numbers.{Assignment}
-use Rattle·paper.specs.Analysis.{Tasks, passes}
-use Rattle·paper.specs.Rows.{rowSize, rowAssignment, rowHolds}
-use Rattle·paper.proofs.Tests.{never}
-use Rattle·paper.proofs.Formed.{formed}
-use Rattle·laws.proofs.Agree.{SameAssignment, passes-agree}
-use Rattle·rows.specs.Places.{fitsAt}
-use Rattle·rows.proofs.Places.{formed-fits, fits-alike}
-use Rattle·search·specs.specs.Search.{Barren, Tests}
+use Rattle.paper.specs.Numbers.{Assignment}
+use Rattle.paper.specs.Analysis.{Tasks, passes}
+use Rattle.paper.specs.Rows.{row_size, row_assignment, row_holds}
+use Rattle.paper.proofs.Tests.{never}
+use Rattle.paper.proofs.Formed.{formed}
+use Rattle.laws.proofs.Agree.{SameAssignment, passes_agree}
+use Rattle.rows.specs.Places.{fits_at}
+use Rattle.rows.proofs.Places.{formed_fits, fits_alike}
+use Rattle.search.specs.Search.{Barren, Tests}
 
 -- a row that is not well formed does not pass
-pub ill-formed : (y : Tasks) (d : List ℕ) → rowHolds (y .n) (take (rowSize (y .n)) d) ≡ false → Tests y false d
+pub ill_formed : (y : Tasks) (d : List ℕ) → row_holds y.n (take (row_size y.n) d) ≡ false → Tests y false d
 unfolding Tests
-ill-formed y d e p = never _ (p .form) e
+ill_formed y d e p = never _ p.form e
 
 -- one that is passes where its assignment does
-well-formed : (y : Tasks) (d : List ℕ) (b : Bool) → rowHolds (y .n) (take (rowSize (y .n)) d) ≡ true
-    → b ≡ passes y (rowAssignment (y .n) (take (rowSize (y .n)) d)) → Tests y b d
+well_formed : (y : Tasks) (d : List ℕ) (b : Bool) → row_holds y.n (take (row_size y.n) d) ≡ true
+    → b ≡ passes y (row_assignment y.n (take (row_size y.n) d)) → Tests y b d
 unfolding Tests
-well-formed y d true h e = record { form = h; pass = sym e }
-well-formed y d false h e = λ p. never _ (p .pass) (sym e)
+well_formed y d true h e = record { form = h; pass = sym e }
+well_formed y d false h e = λ p. never _ p.pass (sym e)
 
 -- that of any columns that hold it
-pub row-tested : (y : Tasks) (d : List ℕ) {a : Assignment} {b : Bool} → rowHolds (y .n) (take (rowSize (y .n)) d) ≡ true
-    → SameAssignment (y .n) a (rowAssignment (y .n) (take (rowSize (y .n)) d)) → b ≡ passes y a → Tests y b d
-row-tested y d {a} {b} h s e = well-formed y d b h (e ∙ passes-agree y a _ s)
+pub row_tested : (y : Tasks) (d : List ℕ) {a : Assignment} {b : Bool} → row_holds y.n (take (row_size y.n) d) ≡ true
+    → SameAssignment y.n a (row_assignment y.n (take (row_size y.n) d)) → b ≡ passes y a → Tests y b d
+row_tested y d {a} {b} h s e = well_formed y d b h (e ∙ passes_agree y a _ s)
 
 -- A number that does not fit after those before it leaves no passing row.
-pub unfit-barren : (y : Tasks) (d : List ℕ) (pos : ℕ) → pos < rowSize (y .n) → fitsAt (y .n) d pos ≡ false → Barren y d (suc pos)
+pub unfit_barren : (y : Tasks) (d : List ℕ) (pos : ℕ) → pos < row_size y.n → fits_at y.n d pos ≡ false → Barren y d (suc pos)
 unfolding Barren
-unfit-barren y d pos l e r p q =
-    never _ (formed-fits (y .n) r (formed (y .n) r (p .form)) pos l) (fits-alike (y .n) pos r d q ∙ e)
+unfit_barren y d pos l e r p q =
+    never _ (formed_fits y.n r (formed y.n r p.form) pos l) (fits_alike y.n pos r d q ∙ e)

@@ -1,27 +1,23 @@
 -- What the search by digits answers. Its digits are the numbers of a row, at the front of an array that has room for the longest row.
-use Prim.Native.Nat.{ℕ, _+_, _<_, _≤_}
-use mathlib.Core.Path.{_≡_}
-use mathlib.Core.Bool.{Bool, true, false}
-use mathlib.Core.List.{List}
-use lib.ListN.{length, take, getD}
-use Rattle·paper.specs.Numbers.{mostTasks}
-use Rattle·paper.specs.Analysis.{Tasks}
-use Rattle·paper.specs.Rows.{rowSize, Later, Passing}
-use Rattle·laws.specs.Order.{From, Within}
+use Rattle.std.specs.Prelude.{ℕ, ◌+◌, ◌<◌, ◌≤◌, ◌≡◌, Bool, true, false, List, length, take, get_or}
+use Rattle.paper.specs.Numbers.{most_tasks}
+use Rattle.paper.specs.Analysis.{Tasks}
+use Rattle.paper.specs.Rows.{row_size, Later, Passing}
+use Rattle.laws.specs.Order.{From, Within}
 
 -- what the test of a full row says: true, and the row in the digits passes, or false, and it does not
 unfoldable pub Tests : Tasks → Bool → List ℕ → Type 0
-Tests y true d = Passing y (take (rowSize (y .n)) d)
-Tests y false d = Passing y (take (rowSize (y .n)) d) → ⊥
+Tests y true d = Passing y (take (row_size y.n) d)
+Tests y false d = Passing y (take (row_size y.n) d) → ⊥
 
 -- the digits up to place pos are a candidate: each from 1 to n, the last perhaps n + 1
 pub record Begun (n : ℕ) (d : List ℕ) (pos : ℕ) : Type 0 where
-  pub few : n ≤ mostTasks
-  pub inside : pos < rowSize n
-  pub size : length d ≡ rowSize mostTasks
+  pub few : n ≤ most_tasks
+  pub inside : pos < row_size n
+  pub size : length d ≡ row_size most_tasks
   pub head : Within n (take pos d)
-  pub low : 1 ≤ getD d pos 0
-  pub high : getD d pos 0 ≤ n + 1
+  pub low : 1 ≤ get_or d pos 0
+  pub high : get_or d pos 0 ≤ n + 1
 
 -- no passing row begins with the first k digits
 unfoldable pub Barren : Tasks → List ℕ → ℕ → Type 0
@@ -39,5 +35,5 @@ NoneFrom y p = (r : List ℕ) → Passing y r → From p r → ⊥
 
 -- what a search from p on finds: the row in the digits, or none
 unfoldable pub Finds : Tasks → List ℕ → Bool → List ℕ → Type 0
-Finds y p true d = FirstFrom y p (take (rowSize (y .n)) d)
+Finds y p true d = FirstFrom y p (take (row_size y.n) d)
 Finds y p false d = NoneFrom y p

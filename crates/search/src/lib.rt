@@ -1,19 +1,20 @@
 // The search by digits: the first passing row from a candidate on.
-ghost use mathlib.Core.Path.{_≡_};
-ghost use mathlib.Core.Bool.{true};
-ghost use Prim.Native.Nat.{suc};
-ghost use lib.ListN.{length, take};
-ghost use Rattle·paper.specs.Numbers.{mostTasks};
-ghost use Rattle·paper.specs.Rows.{rowSize};
-ghost use Rattle·columns.specs.Columns.{tasksBy, Ranged};
-ghost use Rattle·search·specs.specs.Search.{Begun, Barren, Tests, Finds};
+
+#![tactic(auto)]
+
+ghost use Rattle.std.specs.Prelude.{◌≡◌, true, suc, length, take};
+ghost use Rattle.paper.specs.Numbers.{most_tasks};
+ghost use Rattle.paper.specs.Rows.{row_size};
+ghost use Rattle.columns.specs.Columns.{tasks_by, Ranged};
+ghost use Rattle.search.specs.Search.{Begun, Barren, Tests, Finds};
+
 use columns::Tasks;
 use rows::Digits;
 
 // Whether the first 2n digits are a passing row.
 fn row_passes(n: usize, y: &Tasks, digits: &Digits) -> bool
-    requires { ⌜ Ranged (tasksBy n (now y)) × (length (now digits) ≡ rowSize mostTasks) ⌝ }
-    ensures { λ r. ⌜ Tests (tasksBy n (now (y .entry))) r (now (digits .entry)) ⌝ }
+    requires { Ranged (tasks_by n y.now) × (length digits.now ≡ row_size most_tasks) }
+    ensures { Tests (tasks_by n y.now) result digits.now }
 {
     let p = rows::priorities_of(n, digits);
     let h = rows::numbers_from(n, digits, n);
@@ -26,12 +27,13 @@ fn row_passes(n: usize, y: &Tasks, digits: &Digits) -> bool
 // Whether no passing row begins with the digits up to place pos. It may say no where it does not know: so far it cuts only what can't stand
 // in a well-formed row, and the tasks are there for a cut that looks at times.
 fn hopeless(n: usize, y: &Tasks, digits: &Digits, pos: usize) -> bool
-    requires { ⌜ Ranged (tasksBy n (now y)) × Begun n (now digits) pos ⌝ }
-    ensures { λ r. ⌜ (r ≡ true → Barren (tasksBy n (now (y .entry))) (now (digits .entry)) (suc pos)) ⌝ }
+    requires { Ranged (tasks_by n y.now) × Begun n digits.now pos }
+    ensures { result ≡ true → Barren (tasks_by n y.now) digits.now (suc pos) }
 {
     !rows::fits(n, digits, pos)
 }
 
+#[derive(Clone, Copy)]
 pub struct Found {
     pub digits: Digits,
     pub row: bool,
@@ -39,8 +41,8 @@ pub struct Found {
 
 // The first passing row that begins with the first at + 1 digits of start or is later.
 pub fn search(n: usize, y: &Tasks, start: Digits, at: usize) -> Found
-    requires { ⌜ Ranged (tasksBy n (now y)) × Begun n start at ⌝ }
-    ensures { λ r. ⌜ Finds (tasksBy n (now (y .entry))) (take (suc at) start) (r .row) (r .digits) ⌝ }
+    requires { Ranged (tasks_by n y.now) × Begun n start at }
+    ensures { Finds (tasks_by n y.now) (take (suc at) start) result.row result.digits }
 {
     let mut digits = start;
     let mut pos = at;

@@ -1,6 +1,11 @@
 // The files that the arguments name. What is wrong with one is said on standard error, a line for each.
-ghost use Rattle·io.specs.Counts.{Counts};
-ghost use Rattle·fronts.specs.Front.{Front};
+ghost use Rattle.io.specs.Counts.{IsPrefixLen};
+ghost use Rattle.fronts.specs.Front.{Front};
+
+use std::env::{Env, FillError};
+use std::fs;
+use std::io::{Error, ErrorKind, Read};
+use std::rt::Files;
 
 // A name list: 64 entries of 16 bytes, and one byte more by which a longer list is known.
 const ENTRY: usize = 16;
@@ -9,105 +14,151 @@ const LIST: usize = 64 * ENTRY;
 
 pub const LIST_AND_ONE: usize = LIST + 1;
 
-struct Opened {
-    // Below 0 where there is nothing to read.
-    fd: i32,
+// The system's number for an argument that is longer than any path.
+const NAME_TOO_LONG: i32 = 36;
+
+#[derive(Drop)]
+struct Opened<F> {
+    // None where there is nothing to read.
+    file: Option<F>,
     // So many bytes of the path.
     path: usize,
     failed: bool,
 }
 
 // Opens the file that an argument names. An argument that is missing or empty names none.
-fn open(argument: usize, what: &[u8], path: &mut [u8]) -> Opened
-    ensures { λ r. ⌜ Counts (r .path) (now (path .exit)) ⌝ }
+fn open<R: Files + Env + Eprint>(
+    rt: &R,
+    argument: usize,
+    what: &str,
+    path: &mut [u8],
+) -> Opened<R::File>
+    ensures { IsPrefixLen result.path path.new }
 {
-    let n = os::arg(argument, path);
-    let error = os::errno();
-    if error == libc::EINVAL {
-        return Opened {
-            fd: -1,
-            path: n,
-            failed: false,
-        };
-    }
-    if error != 0 {
-        os::fail(what);
-        return Opened {
-            fd: -1,
-            path: n,
-            failed: true,
-        };
-    }
+    let n = match rt.arg(argument, path) {
+        Ok(n) => n,
+        Err(FillError::NotPresent) => {
+            return Opened {
+                file: None,
+                path: 0,
+                failed: false,
+            };
+        }
+        Err(FillError::TooLong) => {
+            text::fail(rt, what, Error::from_raw_os_error(NAME_TOO_LONG));
+            return Opened {
+                file: None,
+                path: 0,
+                failed: true,
+            };
+        }
+    };
     if n == 0 {
         return Opened {
-            fd: -1,
+            file: None,
             path: n,
             failed: false,
         };
     }
-    let fd = os::open_read(&path[..n]);
-    if fd < 0 {
-        os::fail(&path[..n]);
-        return Opened {
-            fd: -1,
-            path: n,
-            failed: true,
-        };
-    }
-    Opened {
-        fd,
-        path: n,
-        failed: false,
+    match str::from_utf8(&path[..n]) {
+        Err(_) => {
+            text::fail(
+                rt,
+                what,
+                Error::new(ErrorKind::InvalidInput, "its name is not UTF-8"),
+            );
+            Opened {
+                file: None,
+                path: n,
+                failed: true,
+            }
+        }
+        Ok(name) => match fs::open(rt, name) {
+            Err(error) => {
+                text::fail(rt, name, error);
+                Opened {
+                    file: None,
+                    path: n,
+                    failed: true,
+                }
+            }
+            Ok(file) => Opened {
+                file: Some(file),
+                path: n,
+                failed: false,
+            },
+        },
     }
 }
 
-fn tell(path: &[u8], words: &[u8]) {
-    io::write_all(libc::STDERR_FILENO, path);
-    io::write_all(libc::STDERR_FILENO, words);
+// The path of a file that was opened: `open` takes no other.
+fn text_of(path: &[u8]) -> &str {
+    match str::from_utf8(path) {
+        Ok(name) => name,
+        Err(_) => "",
+    }
 }
 
-fn tell_length(path: &[u8], bytes: usize) {
+fn tell<R: Eprint>(rt: &R, path: &str, words: &str) {
+    let _ = eprintln!(rt; "{path}: {words}");
+}
+
+fn tell_length<R: Eprint>(rt: &R, path: &str, bytes: usize) {
     if bytes == 0 {
-        tell(path, b": no name at all\n");
+        tell(rt, path, "no name at all");
         return;
     }
     if LIST < bytes {
         tell(
+            rt,
             path,
-            b": longer than 64 names of 16 bytes; the rest is not looked at\n",
+            "longer than 64 names of 16 bytes; the rest is not looked at",
         );
         return;
     }
     if bytes % ENTRY != 0 {
         tell(
+            rt,
             path,
-            b": not a whole number of 16-byte names; the last one is not looked at\n",
+            "not a whole number of 16-byte names; the last one is not looked at",
         );
     }
 }
 
-// A name list, or as much of it as there is: a job whose name it doesn't have is shown by its number.
-pub fn read_names(argument: usize, what: &[u8], list: &mut [u8]) -> usize
-    ensures { λ r. ⌜ Counts r (now (list .exit)) ⌝ }
+// The names of a file, or as many of its bytes as there are.
+fn names_in<R: Eprint, F: Read>(rt: &R, file: &mut F, path: &str, list: &mut [u8]) -> usize
+    ensures { IsPrefixLen result list.new }
 {
-    let mut path = io::buffer();
-    let opened = open(argument, what, &mut path);
-    let fd = opened.fd;
-    let p = opened.path;
-    if fd < 0 {
-        return fronts::of_bytes(list, 0);
-    }
-    let got = intake::read_whole(fd, list);
-    if got.failed {
-        os::fail(&path[..p]);
-    }
-    libc::close(fd);
-    if !got.failed {
-        tell_length(&path[..p], got.bytes);
+    let got = intake::read_whole(file, list);
+    match got.failed {
+        Some(error) => text::fail(rt, path, error),
+        None => tell_length(rt, path, got.bytes),
     }
     got.bytes
 }
 
+// A name list, or as much of it as there is: a job whose name it doesn't have is shown by its number.
+pub fn read_names<R: Files + Env + Eprint>(
+    rt: &R,
+    argument: usize,
+    what: &str,
+    list: &mut [u8],
+) -> usize
+    ensures { IsPrefixLen result list.new }
+{
+    let mut path = io::buffer();
+    let opened = open(rt, argument, what, &mut path);
+    let p = opened.path;
+    match opened.file {
+        None => fronts::of_bytes(list, 0),
+        Some(file) => {
+            let mut file = file;
+            names_in(rt, &mut file, text_of(&path[..p]), list)
+        }
+    }
+}
+
+#[derive(Clone, Copy)]
 pub struct Lent {
     // So many words stand at the front of the list.
     pub words: usize,
@@ -115,23 +166,20 @@ pub struct Lent {
     pub failed: bool,
 }
 
-fn tell_wrong(path: &[u8], line: usize) {
-    tell(path, b": line ");
-    io::print_decimal(libc::STDERR_FILENO, line as u64);
-    io::write_all(
-        libc::STDERR_FILENO,
-        b" holds something that is no number below 1,000,000,000\n",
+fn tell_wrong<R: Eprint>(rt: &R, path: &str, line: usize) {
+    let _ = eprintln!(rt;
+        "{path}: line {line} holds something that is no number below 1,000,000,000"
     );
 }
 
 // The words of a catalogue's text.
-fn words_of(path: &[u8], text: &[u8], list: &mut [u32]) -> Lent
-    ensures { λ r. ⌜ Front (r .words) (now (list .exit)) ⌝ }
+fn words_of<R: Eprint>(rt: &R, path: &str, text: &[u8], list: &mut [u32]) -> Lent
+    ensures { Front result.words list.new }
 {
     let read = catalogue::read_words(text, list);
     let words = read.words;
     if read.wrong != 0 {
-        tell_wrong(path, read.wrong);
+        tell_wrong(rt, path, read.wrong);
         return Lent {
             words,
             failed: true,
@@ -139,8 +187,9 @@ fn words_of(path: &[u8], text: &[u8], list: &mut [u32]) -> Lent
     }
     if read.more {
         tell(
+            rt,
             path,
-            b": a file can name only the first 254 numbers; the rest is not looked at\n",
+            "a file can name only the first 254 numbers; the rest is not looked at",
         );
     }
     Lent {
@@ -150,35 +199,48 @@ fn words_of(path: &[u8], text: &[u8], list: &mut [u32]) -> Lent
 }
 
 fn no_words(list: &[u32], failed: bool) -> Lent
-    ensures { λ r. ⌜ Front (r .words) (now (list .entry)) ⌝ }
+    ensures { Front result.words list.now }
 {
     let words = fronts::of_words(list, 0);
     Lent { words, failed }
 }
 
-// The catalogue, or nothing of it.
-pub fn read_catalogue(argument: usize, what: &[u8], list: &mut [u32]) -> Lent
-    ensures { λ r. ⌜ Front (r .words) (now (list .exit)) ⌝ }
+// The catalogue of a file, or nothing of it.
+fn catalogue_in<R: Eprint, F: Read>(rt: &R, file: &mut F, path: &str, list: &mut [u32]) -> Lent
+    ensures { Front result.words list.new }
 {
-    let mut path = io::buffer();
-    let opened = open(argument, what, &mut path);
-    let fd = opened.fd;
-    let p = opened.path;
-    if fd < 0 {
-        return no_words(list, opened.failed);
-    }
     let mut text = io::large_buffer();
-    let got = intake::read_whole(fd, &mut text);
-    if got.failed {
-        os::fail(&path[..p]);
-        libc::close(fd);
+    let got = intake::read_whole(file, &mut text);
+    if let Some(error) = got.failed {
+        text::fail(rt, path, error);
         return no_words(list, true);
     }
-    libc::close(fd);
     let bytes = got.bytes;
     if bytes == text.len() {
-        tell(&path[..p], b": too long for a catalogue\n");
+        tell(rt, path, "too long for a catalogue");
         return no_words(list, true);
     }
-    words_of(&path[..p], &text[..bytes], list)
+    words_of(rt, path, &text[..bytes], list)
+}
+
+// The catalogue, or nothing of it.
+pub fn read_catalogue<R: Files + Env + Eprint>(
+    rt: &R,
+    argument: usize,
+    what: &str,
+    list: &mut [u32],
+) -> Lent
+    ensures { Front result.words list.new }
+{
+    let mut path = io::buffer();
+    let opened = open(rt, argument, what, &mut path);
+    let p = opened.path;
+    let failed = opened.failed;
+    match opened.file {
+        None => no_words(list, failed),
+        Some(file) => {
+            let mut file = file;
+            catalogue_in(rt, &mut file, text_of(&path[..p]), list)
+        }
+    }
 }

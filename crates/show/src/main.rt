@@ -9,28 +9,25 @@
 // region of the job is at most its length, and points whether the test of fixed preemption points passes, which is sufficient only.
 // Lines under it name the worst job of an active period, where that isn't job 0 or the deadline is missed, and the first job that
 // the test doesn't show.
+#![tactic(auto)]
+
 mod arguments;
 mod unnamed;
 
-ghost use Prim.Native.Nat.{_≤_};
-ghost use lib.ListN.{length};
+ghost use Rattle.std.specs.Prelude.{◌≤◌, length};
+
 use arguments::LIST_AND_ONE;
 use catalogue::MOST_NAMED;
-use paper::Cabinet;
-use paper::Line;
-use paper::MOST_TASKS;
-use paper::MOST_WORDS;
-use paper::Outcome;
-use paper::Refusal;
-use paper::Table;
-use request::PLATE_AND_FILE;
-use request::PLATE_BYTES;
+use paper::{Cabinet, Line, MOST_TASKS, MOST_WORDS, Outcome, Refusal, Table};
+use request::{PLATE_AND_FILE, PLATE_BYTES};
+use std::env::{Env, FillError};
+use std::rt::Files;
 
-fn put_plate(buf: &mut [u8], cabinet: Cabinet, line: Line) -> usize
-    ensures { λ r. ⌜ r ≤ length (now (buf .entry)) ⌝ }
+fn put_plate<R: Print + Eprint>(rt: &R, buf: &mut [u8], cabinet: Cabinet, line: Line) -> usize
+    ensures { result ≤ length buf.old }
 {
-    let first = say::count(buf, 0, b"cabinet", cabinet.0 as u64);
-    say::count(buf, first, b", line", line.0 as u64)
+    let first = say::count(rt, buf, 0, b"cabinet", cabinet.0 as u64);
+    say::count(rt, buf, first, b", line", line.0 as u64)
 }
 
 // The number of the first job of a file that takes its regions from the catalogue and finds it ending before them, or 0.
@@ -51,92 +48,124 @@ fn first_outside(file: &[u8], catalogue: &[u32]) -> usize {
     first_jobs::first_outside(rs, n, catalogue.len())
 }
 
-fn put_outside(buf: &mut [u8], at: usize, job: usize, words: usize) -> usize
-    requires { ⌜ at ≤ length (now buf) ⌝ }
-    ensures { λ x. ⌜ x ≤ length (now (buf .entry)) ⌝ }
+fn put_outside<R: Print + Eprint>(
+    rt: &R,
+    buf: &mut [u8],
+    at: usize,
+    job: usize,
+    words: usize,
+) -> usize
+    requires { at ≤ length buf.old }
+    ensures { result ≤ length buf.old }
 {
-    let numbered = say::count(buf, at, b"refused", numbers::number_of(Refusal::BadRegions));
-    let named = say::count(buf, numbered, b": job", job as u64);
-    let told = say::word(buf, named, b" takes its regions from the catalogue, which");
+    let numbered = say::count(
+        rt,
+        buf,
+        at,
+        b"refused",
+        numbers::number_of(Refusal::BadRegions),
+    );
+    let named = say::count(rt, buf, numbered, b": job", job as u64);
+    let told = say::word(
+        rt,
+        buf,
+        named,
+        b" takes its regions from the catalogue, which",
+    );
     if words == 0 {
-        return say::word(buf, told, b" is empty; the third argument names one\n");
+        return say::word(rt, buf, told, b" is empty; the third argument names one\n");
     }
-    let counted = say::count(buf, told, b" has only", words as u64);
-    say::word(buf, counted, b" numbers\n")
+    let counted = say::count(rt, buf, told, b" has only", words as u64);
+    say::word(rt, buf, counted, b" numbers\n")
 }
 
 // A job's regions break the rules: where that is because the catalogue ends before them, this is said.
-fn put_regions(buf: &mut [u8], at: usize, file: &[u8], catalogue: &[u32]) -> usize
-    requires { ⌜ at ≤ length (now buf) ⌝ }
-    ensures { λ x. ⌜ x ≤ length (now (buf .entry)) ⌝ }
+fn put_regions<R: Print + Eprint>(
+    rt: &R,
+    buf: &mut [u8],
+    at: usize,
+    file: &[u8],
+    catalogue: &[u32],
+) -> usize
+    requires { at ≤ length buf.old }
+    ensures { result ≤ length buf.old }
 {
     let job = first_outside(file, catalogue);
     if job == 0 {
-        return cells::put_refused(buf, at, Refusal::BadRegions);
+        return cells::put_refused(rt, buf, at, Refusal::BadRegions);
     }
-    put_outside(buf, at, job, catalogue.len())
+    put_outside(rt, buf, at, job, catalogue.len())
 }
 
-fn put_refused(buf: &mut [u8], at: usize, r: Refusal, file: &[u8], catalogue: &[u32]) -> usize
-    requires { ⌜ at ≤ length (now buf) ⌝ }
-    ensures { λ x. ⌜ x ≤ length (now (buf .entry)) ⌝ }
+fn put_refused<R: Print + Eprint>(
+    rt: &R,
+    buf: &mut [u8],
+    at: usize,
+    r: Refusal,
+    file: &[u8],
+    catalogue: &[u32],
+) -> usize
+    requires { at ≤ length buf.old }
+    ensures { result ≤ length buf.old }
 {
-    let start = say::newline(buf, at);
+    let start = say::newline(rt, buf, at);
     match r {
-        Refusal::BadRegions => put_regions(buf, start, file, catalogue),
-        _ => cells::put_refused(buf, start, r),
+        Refusal::BadRegions => put_regions(rt, buf, start, file, catalogue),
+        _ => cells::put_refused(rt, buf, start, r),
     }
 }
 
 // Edition 1 isn't said: its sheets stay as they were.
-fn put_edition(buf: &mut [u8], at: usize, edition: u8) -> usize
-    requires { ⌜ at ≤ length (now buf) ⌝ }
-    ensures { λ r. ⌜ r ≤ length (now (buf .entry)) ⌝ }
+fn put_edition<R: Print + Eprint>(rt: &R, buf: &mut [u8], at: usize, edition: u8) -> usize
+    requires { at ≤ length buf.old }
+    ensures { result ≤ length buf.old }
 {
     if edition == layout::EDITION_ONE {
         return at;
     }
-    say::count(buf, at, b", edition", edition as u64)
+    say::count(rt, buf, at, b", edition", edition as u64)
 }
 
-fn put_jobs(buf: &mut [u8], at: usize, t: Table) -> usize
-    requires { ⌜ at ≤ length (now buf) ⌝ }
-    ensures { λ r. ⌜ r ≤ length (now (buf .entry)) ⌝ }
+fn put_jobs<R: Print + Eprint>(rt: &R, buf: &mut [u8], at: usize, t: Table) -> usize
+    requires { at ≤ length buf.old }
+    ensures { result ≤ length buf.old }
 {
-    let counted = say::count(buf, at, b", jobs", t.n as u64);
-    say::word(buf, counted, b"\n\n")
+    let counted = say::count(rt, buf, at, b", jobs", t.n as u64);
+    say::word(rt, buf, counted, b"\n\n")
 }
 
 // There is room for the words of any file, so that 12 is never the answer.
-fn put_file<'a>(
+fn put_file<'a, R: Print + Eprint>(
+    rt: &R,
     buf: &mut [u8],
     input: &[u8],
     catalogue: &[u32],
     cabinet_names: &'a [u8],
     house_names: &'a [u8],
 ) -> usize
-    ensures { λ r. ⌜ r ≤ length (now (buf .entry)) ⌝ }
+    ensures { result ≤ length buf.old }
 {
     if input.len() < PLATE_BYTES {
-        return cells::put_refused(buf, 0, Refusal::Short);
+        return cells::put_refused(rt, buf, 0, Refusal::Short);
     }
     let cabinet = request::plate_cabinet(input);
     let line = request::plate_line(input);
-    let plated = put_plate(buf, cabinet, line);
+    let plated = put_plate(rt, buf, cabinet, line);
     let file = &input[PLATE_BYTES..];
     let mut words = [0u32; MOST_WORDS];
     let answer = reader::read(file, cabinet, line, catalogue, &mut words);
     let outcome = answer.outcome;
     match outcome {
-        Outcome::Refused(r) => put_refused(buf, plated, r, file, catalogue),
+        Outcome::Refused(r) => put_refused(rt, buf, plated, r, file, catalogue),
         Outcome::Done => {
             let t = answer.table;
             let rs = t.records;
-            unnamed::tell(rs, first_jobs::jobs_of(t), cabinet_names, house_names);
+            unnamed::tell(rt, rs, first_jobs::jobs_of(t), cabinet_names, house_names);
             let m = fronts::of_words(&words, answer.words);
-            let said = put_edition(buf, plated, answer.edition);
-            let start = put_jobs(buf, said, t);
+            let said = put_edition(rt, buf, plated, answer.edition);
+            let start = put_jobs(rt, buf, said, t);
             show_sheet::put_sheet(
+                rt,
                 buf,
                 start,
                 t,
@@ -150,42 +179,49 @@ fn put_file<'a>(
 }
 
 // What the arguments name is read, and the sheet is written out.
-fn show(input: &[u8]) {
+fn show<R: Files + Env + Print + Eprint>(rt: &R, input: &[u8]) {
     let mut words = [0u32; MOST_NAMED];
-    let lent = arguments::read_catalogue(3, b"the catalogue", &mut words);
+    let lent = arguments::read_catalogue(rt, 3, "the catalogue", &mut words);
     if lent.failed {
         return;
     }
     let w = lent.words;
     let mut cabinet_names = [0u8; LIST_AND_ONE];
-    let c = arguments::read_names(1, b"the cabinet's name list", &mut cabinet_names);
+    let c = arguments::read_names(rt, 1, "the cabinet's name list", &mut cabinet_names);
     let mut house_names = [0u8; LIST_AND_ONE];
-    let h = arguments::read_names(2, b"the house's name list", &mut house_names);
+    let h = arguments::read_names(rt, 2, "the house's name list", &mut house_names);
     let mut buf = io::large_buffer();
     let end = put_file(
+        rt,
         &mut buf,
         input,
         &words[..w],
         &cabinet_names[..c],
         &house_names[..h],
     );
-    text::flush(&buf, end);
+    text::flush(rt, &buf, end);
+}
+
+// Whether there is an argument behind the third.
+fn has_fourth<R: Env>(rt: &R) -> bool {
+    let mut none = [0u8; 1];
+    match rt.arg(4, &mut none) {
+        Err(FillError::NotPresent) => false,
+        _ => true,
+    }
 }
 
 // Standard input comes first: where it is closed, a file that is opened would get its number.
-fn main() {
+fn main(rt: HostRuntime) {
     let mut input = [0u8; PLATE_AND_FILE];
-    let got = intake::read_whole(libc::STDIN_FILENO, &mut input);
-    if got.failed {
-        os::fail(b"standard input");
+    let got = intake::read_whole(&mut rt.stdin(), &mut input);
+    if let Some(error) = got.failed {
+        text::fail(&rt, "standard input", error);
         return;
     }
-    if 4 < os::arg_count() {
-        io::write_all(
-            libc::STDERR_FILENO,
-            b"arguments past the third are not looked at\n",
-        );
+    if has_fourth(&rt) {
+        let _ = eprintln!(rt; "arguments past the third are not looked at");
     }
     let n = got.bytes;
-    show(&input[..n]);
+    show(&rt, &input[..n]);
 }

@@ -1,9 +1,8 @@
 // Jobs whose name a list that was given doesn't reach: they are shown by their number, and this says why.
-ghost use Prim.Native.Nat.{_≤_};
-ghost use Rattle·paper.specs.Numbers.{mostTasks};
-use paper::MOST_TASKS;
-use paper::Outcome;
-use paper::Record;
+ghost use Rattle.std.specs.Prelude.{◌≤◌};
+ghost use Rattle.paper.specs.Numbers.{most_tasks};
+
+use paper::{MOST_TASKS, Outcome, Record};
 
 // The first name number that stands in the house's list.
 const FIRST_OF_HOUSE: u32 = 64;
@@ -28,7 +27,7 @@ fn ends_before<'a>(number: u32, cabinet: &'a [u8], house: &'a [u8]) -> bool {
 
 // The number of the first such job, or 0.
 fn first_of<'a>(rs: [Record; MOST_TASKS], n: usize, cabinet: &'a [u8], house: &'a [u8]) -> usize
-    requires { ⌜ n ≤ mostTasks ⌝ }
+    requires { n ≤ most_tasks }
 {
     let mut k: usize = 0;
     while k < n {
@@ -41,20 +40,20 @@ fn first_of<'a>(rs: [Record; MOST_TASKS], n: usize, cabinet: &'a [u8], house: &'
     0
 }
 
-pub fn tell<'a>(rs: [Record; MOST_TASKS], n: usize, cabinet: &'a [u8], house: &'a [u8])
-    requires { ⌜ n ≤ mostTasks ⌝ }
+pub fn tell<'a, R: Eprint>(
+    rt: &R,
+    rs: [Record; MOST_TASKS],
+    n: usize,
+    cabinet: &'a [u8],
+    house: &'a [u8],
+)
+    requires { n ≤ most_tasks }
 {
     let job = first_of(rs, n, cabinet, house);
     if job == 0 {
         return;
     }
-    io::write_all(
-        libc::STDERR_FILENO,
-        b"the name list ends before the name of job ",
-    );
-    io::print_decimal(libc::STDERR_FILENO, job as u64);
-    io::write_all(
-        libc::STDERR_FILENO,
-        b"; without a name a job is shown by its number\n",
+    let _ = eprintln!(rt;
+        "the name list ends before the name of job {job}; without a name a job is shown by its number"
     );
 }

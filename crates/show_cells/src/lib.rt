@@ -1,21 +1,15 @@
 // The columns of a sheet's table: the cells of each job, and which column is left out. specs/Cells.antt says what each is by the
 // calls' answers.
-ghost use Prim.Native.Nat.{_<_};
-ghost use mathlib.Core.Path.{_≡_};
-ghost use mathlib.Core.Bool.{false};
-ghost use lib.ListN.{getD};
-ghost use Rattle·paper.specs.Numbers.{mostTasks};
-ghost use Rattle·show_facts.specs.Facts.{timeAt, shownAt};
-ghost use Rattle·show_cells·specs.specs.Cells.{ticksAt, placeCell, timeCell, slackCell, ticksCell, fitCell, verdictCell, shown, cellsOf, columnStands};
+#![tactic(auto)]
+
+ghost use Rattle.std.specs.Prelude.{◌<◌, ◌≡◌, false, get_or};
+ghost use Rattle.paper.specs.Numbers.{most_tasks};
+ghost use Rattle.show_facts.specs.Facts.{time_at, shown_at};
+ghost use Rattle.show_cells.specs.Cells.{ticks_at, place_cell, time_cell, slack_cell, ticks_cell, fit_cell, verdict_cell, shown, cells_of, column_stands};
+
 use cells::Cell;
 use first_jobs::Asked;
-use paper::MOST_TASKS;
-use paper::Outcome;
-use paper::PointsAnswer;
-use paper::Shown;
-use paper::TicksAnswer;
-use paper::Time;
-use paper::TimesAnswer;
+use paper::{MOST_TASKS, Outcome, PointsAnswer, Shown, TicksAnswer, Time, TimesAnswer};
 use show_facts::Facts;
 
 // The columns of numbers: cost, period, deadline, jitter, priority, threshold, response time, slack, tolerance, length, fit, points.
@@ -24,7 +18,7 @@ pub const COLUMNS: usize = 12;
 pub const JITTERS: usize = 3;
 
 fn place_cell(x: u32) -> Cell
-    ensures { λ r. ⌜ r ≡ placeCell x ⌝ }
+    ensures { result ≡ place_cell x }
 {
     if x == 0 {
         Cell::Dash
@@ -34,7 +28,7 @@ fn place_cell(x: u32) -> Cell
 }
 
 fn time_cell(time: Time) -> Cell
-    ensures { λ r. ⌜ r ≡ timeCell time ⌝ }
+    ensures { result ≡ time_cell time }
 {
     match time {
         Time::At(x) => Cell::Number(x),
@@ -43,7 +37,7 @@ fn time_cell(time: Time) -> Cell
 }
 
 fn slack_cell(time: Time, deadline: u64) -> Cell
-    ensures { λ r. ⌜ r ≡ slackCell time deadline ⌝ }
+    ensures { result ≡ slack_cell time deadline }
 {
     match time {
         Time::At(x) => {
@@ -58,7 +52,7 @@ fn slack_cell(time: Time, deadline: u64) -> Cell
 }
 
 fn ticks_cell(x: i64) -> Cell
-    ensures { λ r. ⌜ r ≡ ticksCell x ⌝ }
+    ensures { result ≡ ticks_cell x }
 {
     if x < 0 {
         Cell::Minus(say::size_of(x))
@@ -68,14 +62,14 @@ fn ticks_cell(x: i64) -> Cell
 }
 
 fn fit_cell(fits: bool) -> Cell
-    ensures { λ r. ⌜ r ≡ fitCell fits ⌝ }
+    ensures { result ≡ fit_cell fits }
 {
     if fits { Cell::Yes } else { Cell::No }
 }
 
 fn ticks_at(answer: TicksAnswer, k: usize) -> i64
-    requires { ⌜ k < mostTasks ⌝ }
-    ensures { λ r. ⌜ r ≡ ticksAt answer k ⌝ }
+    requires { k < most_tasks }
+    ensures { result ≡ ticks_at answer k }
 {
     let ticks = answer.ticks;
     ticks[k]
@@ -83,7 +77,7 @@ fn ticks_at(answer: TicksAnswer, k: usize) -> i64
 
 // A cell of a call's answer.
 fn shown_cell(outcome: Outcome, cell: Cell) -> Cell
-    ensures { λ r. ⌜ r ≡ shown outcome cell ⌝ }
+    ensures { result ≡ shown outcome cell }
 {
     match outcome {
         Outcome::Done => cell,
@@ -92,16 +86,16 @@ fn shown_cell(outcome: Outcome, cell: Cell) -> Cell
 }
 
 fn response_cell(answer: TimesAnswer, k: usize) -> Cell
-    requires { ⌜ k < mostTasks ⌝ }
-    ensures { λ r. ⌜ r ≡ shown (answer .outcome) (timeCell (timeAt answer k)) ⌝ }
+    requires { k < most_tasks }
+    ensures { result ≡ shown answer.outcome (time_cell (time_at answer k)) }
 {
     let outcome = answer.outcome;
     shown_cell(outcome, time_cell(show_facts::time_at(answer, k)))
 }
 
 fn left_cell(answer: TimesAnswer, deadline: u64, k: usize) -> Cell
-    requires { ⌜ k < mostTasks ⌝ }
-    ensures { λ r. ⌜ r ≡ shown (answer .outcome) (slackCell (timeAt answer k) deadline) ⌝ }
+    requires { k < most_tasks }
+    ensures { result ≡ shown answer.outcome (slack_cell (time_at answer k) deadline) }
 {
     let outcome = answer.outcome;
     shown_cell(
@@ -111,23 +105,23 @@ fn left_cell(answer: TimesAnswer, deadline: u64, k: usize) -> Cell
 }
 
 fn answer_cell(answer: TicksAnswer, k: usize) -> Cell
-    requires { ⌜ k < mostTasks ⌝ }
-    ensures { λ r. ⌜ r ≡ shown (answer .outcome) (ticksCell (ticksAt answer k)) ⌝ }
+    requires { k < most_tasks }
+    ensures { result ≡ shown answer.outcome (ticks_cell (ticks_at answer k)) }
 {
     let outcome = answer.outcome;
     shown_cell(outcome, ticks_cell(ticks_at(answer, k)))
 }
 
 fn fits_cell(lengths: TicksAnswer, fits: [bool; MOST_TASKS], k: usize) -> Cell
-    requires { ⌜ k < mostTasks ⌝ }
-    ensures { λ r. ⌜ r ≡ shown (lengths .outcome) (fitCell (getD fits k false)) ⌝ }
+    requires { k < most_tasks }
+    ensures { result ≡ shown lengths.outcome (fit_cell (get_or fits k false)) }
 {
     let outcome = lengths.outcome;
     shown_cell(outcome, fit_cell(show_facts::fit_at(fits, k)))
 }
 
 fn verdict_cell(verdict: Shown) -> Cell
-    ensures { λ r. ⌜ r ≡ verdictCell verdict ⌝ }
+    ensures { result ≡ verdict_cell verdict }
 {
     match verdict {
         Shown::Passes => Cell::Passes,
@@ -136,16 +130,16 @@ fn verdict_cell(verdict: Shown) -> Cell
 }
 
 fn points_cell(answer: PointsAnswer, k: usize) -> Cell
-    requires { ⌜ k < mostTasks ⌝ }
-    ensures { λ r. ⌜ r ≡ shown (answer .outcome) (verdictCell (shownAt answer k)) ⌝ }
+    requires { k < most_tasks }
+    ensures { result ≡ shown answer.outcome (verdict_cell (shown_at answer k)) }
 {
     let outcome = answer.outcome;
     shown_cell(outcome, verdict_cell(show_facts::shown_at(answer, k)))
 }
 
 pub fn cell(f: Facts, k: usize, column: usize) -> Cell
-    requires { ⌜ k < mostTasks ⌝ }
-    ensures { λ r. ⌜ r ≡ getD (cellsOf f k) column Cell.Dash ⌝ }
+    requires { k < most_tasks }
+    ensures { result ≡ get_or (cells_of f k) column Cell.Dash }
 {
     let r = show_facts::record_of(f.table, k);
     match column {
@@ -170,7 +164,7 @@ pub fn cell(f: Facts, k: usize, column: usize) -> Cell
 
 // The column of the jitters is left out where every jitter is 0.
 pub fn column_stands(f: Facts, column: usize) -> bool
-    ensures { λ b. ⌜ b ≡ columnStands f column ⌝ }
+    ensures { result ≡ column_stands f column }
 {
     if column == JITTERS {
         let n = first_jobs::jobs_of(f.table);

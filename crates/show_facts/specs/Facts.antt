@@ -1,52 +1,48 @@
 -- What the calls answer of a table and of each of its jobs.
-use Prim.Native.Nat.{ℕ}
-use mathlib.Core.Bool.{Bool, false}
-use mathlib.Core.List.{List}
-use lib.IntN.{ℤ, pos}
-use lib.ListN.{getD}
-use Rattle·paper.specs.Vocabulary.{listTo}
-use Rattle·paper.specs.Numbers.{mostTasks, rec}
-use Rattle·paper.specs.Lengths.{regionsFit}
-use Rattle·paper.specs.Regions.{listOf}
-use Rattle·paper.specs.Answers.{noTime, timesAnswer, tolerancesAnswer, lengthsAnswer, fitAnswer, verdictFor, pointsAnswer}
-use Rattle·paper.specs.declared.Record.{Record}
-use Rattle·paper.specs.declared.Table.{Table}
-use Rattle·paper.specs.declared.Response.{Response}
-use Rattle·paper.specs.declared.Time.{Time}
-use Rattle·paper.specs.declared.TimesAnswer.{TimesAnswer}
-use Rattle·paper.specs.declared.Shown.{Shown}
-use Rattle·paper.specs.declared.PointVerdict.{PointVerdict}
-use Rattle·paper.specs.declared.PointsAnswer.{PointsAnswer}
-use Rattle·show_facts·specs.specs.declared.Facts.{Facts}
+use Rattle.std.specs.Prelude.{ℕ, Bool, false, List, ℤ, pos, get_or}
+use Rattle.paper.specs.Vocabulary.{list_to}
+use Rattle.paper.specs.Numbers.{most_tasks, rec}
+use Rattle.paper.specs.Lengths.{regions_fit}
+use Rattle.paper.specs.Regions.{list_of}
+use Rattle.paper.specs.Answers.{no_time, times_answer, tolerances_answer, lengths_answer, fit_answer, verdict_for, points_answer}
+use Rattle.paper.specs.declared.Record.{Record}
+use Rattle.paper.specs.declared.Table.{Table}
+use Rattle.paper.specs.declared.Response.{Response}
+use Rattle.paper.specs.declared.Time.{Time}
+use Rattle.paper.specs.declared.TimesAnswer.{TimesAnswer}
+use Rattle.paper.specs.declared.Shown.{Shown}
+use Rattle.paper.specs.declared.PointVerdict.{PointVerdict}
+use Rattle.paper.specs.declared.PointsAnswer.{PointsAnswer}
+use Rattle.show_facts.specs.declared.Facts.{Facts}
 
 -- the record of job k + 1, and what the calls answer of it
-abbrev pub jobOf : Facts → ℕ → Record
-jobOf f k = rec (f .table .records) k
+abbrev pub job_of : Facts → ℕ → Record
+job_of f k = rec f.table.records k
 
-abbrev pub responseAt : TimesAnswer → ℕ → Response
-responseAt a k = getD (a .times) k noTime
+abbrev pub response_at : TimesAnswer → ℕ → Response
+response_at a k = get_or a.times k no_time
 
-abbrev pub timeAt : TimesAnswer → ℕ → Time
-timeAt a k = responseAt a k .time
+abbrev pub time_at : TimesAnswer → ℕ → Time
+time_at a k = (response_at a k).time
 
-abbrev pub verdictAt : PointsAnswer → ℕ → PointVerdict
-verdictAt a k = getD (a .tasks) k (verdictFor false)
+abbrev pub verdict_at : PointsAnswer → ℕ → PointVerdict
+verdict_at a k = get_or a.tasks k (verdict_for false)
 
-abbrev pub shownAt : PointsAnswer → ℕ → Shown
-shownAt a k = verdictAt a k .verdict
+abbrev pub shown_at : PointsAnswer → ℕ → Shown
+shown_at a k = (verdict_at a k).verdict
 
 -- every region of the job is at most the length that is answered for it
-abbrev pub fitsAt : List Record → List ℤ → List ℕ → List ℕ → ℕ → Bool
-fitsAt rs ticks own catalogue k = regionsFit (listOf (rec rs k .source) own catalogue) (rec rs k) (getD ticks k (pos 0))
+abbrev pub fits_at : List Record → List ℤ → List ℕ → List ℕ → ℕ → Bool
+fits_at rs ticks own catalogue k = regions_fit (list_of (rec rs k).source own catalogue) (rec rs k) (get_or ticks k (pos 0))
 
 -- the calls' answers for a table, the region check's among them
-abbrev pub factsOf : Table → List ℕ → List ℕ → Facts
-factsOf t own catalogue = record {
+abbrev pub facts_of : Table → List ℕ → List ℕ → Facts
+facts_of t own catalogue = record {
   table = t;
-  times = timesAnswer t;
-  tolerances = tolerancesAnswer t;
-  lengths = lengthsAnswer t;
-  fits = listTo mostTasks (fitsAt (t .records) (lengthsAnswer t .ticks) own catalogue);
-  check = fitAnswer t own catalogue;
-  points = pointsAnswer t own catalogue;
+  times = times_answer t;
+  tolerances = tolerances_answer t;
+  lengths = lengths_answer t;
+  fits = list_to most_tasks (fits_at t.records (lengths_answer t).ticks own catalogue);
+  check = fit_answer t own catalogue;
+  points = points_answer t own catalogue;
 }

@@ -1,24 +1,18 @@
 // What the public calls say of a table: their answers side by side, and what they say of each job. specs/Facts.antt says what
 // each is by the calls' answers. What a sheet makes of it is for the crates above.
-ghost use Prim.Native.Nat.{_<_};
-ghost use mathlib.Core.Path.{_≡_};
-ghost use mathlib.Core.Bool.{false};
-ghost use lib.ListN.{getD};
-ghost use Rattle·paper.specs.Vocabulary.{listTo};
-ghost use Rattle·paper.specs.Numbers.{mostTasks, rec};
-ghost use Rattle·show_facts·specs.specs.Facts.{responseAt, timeAt, fitsAt, verdictAt, shownAt, factsOf};
-use paper::FitAnswer;
-use paper::MOST_TASKS;
-use paper::PointVerdict;
-use paper::PointsAnswer;
-use paper::Record;
-use paper::Response;
-use paper::Shown;
-use paper::Table;
-use paper::TicksAnswer;
-use paper::Time;
-use paper::TimesAnswer;
+#![tactic(auto)]
 
+ghost use Rattle.std.specs.Prelude.{◌<◌, ◌≡◌, false, get_or};
+ghost use Rattle.paper.specs.Vocabulary.{list_to};
+ghost use Rattle.paper.specs.Numbers.{most_tasks, rec};
+ghost use Rattle.show_facts.specs.Facts.{response_at, time_at, fits_at, verdict_at, shown_at, facts_of};
+
+use paper::{
+    FitAnswer, MOST_TASKS, PointVerdict, PointsAnswer, Record, Response, Shown, Table, TicksAnswer,
+    Time, TimesAnswer,
+};
+
+#[derive(Clone, Copy)]
 pub struct Facts {
     pub table: Table,
     pub times: TimesAnswer,
@@ -36,7 +30,7 @@ fn all_fits(
     own: &[u32],
     catalogue: &[u32],
 ) -> [bool; MOST_TASKS]
-    ensures { λ fs. ⌜ fs ≡ listTo mostTasks (fitsAt rs lengths (now (own .entry)) (now (catalogue .entry))) ⌝ }
+    ensures { result ≡ list_to most_tasks (fits_at rs lengths own.now catalogue.now) }
 {
     let mut fits = [false; MOST_TASKS];
     let mut k: usize = 0;
@@ -48,7 +42,7 @@ fn all_fits(
 }
 
 pub fn facts_of(t: Table, own: &[u32], catalogue: &[u32]) -> Facts
-    ensures { λ f. ⌜ f ≡ factsOf t (now (own .entry)) (now (catalogue .entry)) ⌝ }
+    ensures { result ≡ facts_of t own.now catalogue.now }
 {
     let times = response::response_times(t);
     let tolerances = lengths::tolerances(t);
@@ -70,47 +64,47 @@ pub fn facts_of(t: Table, own: &[u32], catalogue: &[u32]) -> Facts
 }
 
 pub fn response_at(answer: TimesAnswer, k: usize) -> Response
-    requires { ⌜ k < mostTasks ⌝ }
-    ensures { λ r. ⌜ r ≡ responseAt answer k ⌝ }
+    requires { k < most_tasks }
+    ensures { result ≡ response_at answer k }
 {
     let times = answer.times;
     times[k]
 }
 
 pub fn time_at(answer: TimesAnswer, k: usize) -> Time
-    requires { ⌜ k < mostTasks ⌝ }
-    ensures { λ r. ⌜ r ≡ timeAt answer k ⌝ }
+    requires { k < most_tasks }
+    ensures { result ≡ time_at answer k }
 {
     let response = response_at(answer, k);
     response.time
 }
 
 pub fn fit_at(fits: [bool; MOST_TASKS], k: usize) -> bool
-    requires { ⌜ k < mostTasks ⌝ }
-    ensures { λ r. ⌜ r ≡ getD fits k false ⌝ }
+    requires { k < most_tasks }
+    ensures { result ≡ get_or fits k false }
 {
     fits[k]
 }
 
 fn verdict_at(answer: PointsAnswer, k: usize) -> PointVerdict
-    requires { ⌜ k < mostTasks ⌝ }
-    ensures { λ r. ⌜ r ≡ verdictAt answer k ⌝ }
+    requires { k < most_tasks }
+    ensures { result ≡ verdict_at answer k }
 {
     let tasks = answer.tasks;
     tasks[k]
 }
 
 pub fn shown_at(answer: PointsAnswer, k: usize) -> Shown
-    requires { ⌜ k < mostTasks ⌝ }
-    ensures { λ r. ⌜ r ≡ shownAt answer k ⌝ }
+    requires { k < most_tasks }
+    ensures { result ≡ shown_at answer k }
 {
     let task = verdict_at(answer, k);
     task.verdict
 }
 
 pub fn record_of(t: Table, k: usize) -> Record
-    requires { ⌜ k < mostTasks ⌝ }
-    ensures { λ r. ⌜ r ≡ rec (t .records) k ⌝ }
+    requires { k < most_tasks }
+    ensures { result ≡ rec t.records k }
 {
     let rs = t.records;
     rs[k]

@@ -1,6 +1,6 @@
 // A job's name out of the two lists, or its number where no list has it.
-ghost use Prim.Native.Nat.{_≤_};
-ghost use lib.ListN.{length};
+ghost use Rattle.std.specs.Prelude.{◌≤◌, length};
+
 use paper::Outcome;
 use say::Form;
 
@@ -16,22 +16,30 @@ pub fn width<'a>(number: u32, cabinet: &'a [u8], house: &'a [u8]) -> usize {
     }
 }
 
-fn put_name<'a>(buf: &mut [u8], at: usize, number: u32, cabinet: &'a [u8], house: &'a [u8]) -> usize
-    requires { ⌜ at ≤ length (now buf) ⌝ }
-    ensures { λ r. ⌜ r ≤ length (now (buf .entry)) ⌝ }
+fn put_name<'a, R: Print + Eprint>(
+    rt: &R,
+    buf: &mut [u8],
+    at: usize,
+    number: u32,
+    cabinet: &'a [u8],
+    house: &'a [u8],
+) -> usize
+    requires { at ≤ length buf.old }
+    ensures { result ≤ length buf.old }
 {
     let outcome = parts::name_outcome(number, cabinet, house);
     match outcome {
-        Outcome::Refused(_) => say::marked(buf, at, b'#', number as u64),
+        Outcome::Refused(_) => say::marked(rt, buf, at, b'#', number as u64),
         Outcome::Done => {
             let name = parts::name_bytes(number, cabinet, house);
-            say::bytes(buf, at, Form::Character, name)
+            say::bytes(rt, buf, at, Form::Character, name)
         }
     }
 }
 
 // A name at the left end of a column.
-pub fn put<'a>(
+pub fn put<'a, R: Print + Eprint>(
+    rt: &R,
     buf: &mut [u8],
     at: usize,
     number: u32,
@@ -39,9 +47,9 @@ pub fn put<'a>(
     house: &'a [u8],
     column: usize,
 ) -> usize
-    requires { ⌜ at ≤ length (now buf) ⌝ }
-    ensures { λ r. ⌜ r ≤ length (now (buf .entry)) ⌝ }
+    requires { at ≤ length buf.old }
+    ensures { result ≤ length buf.old }
 {
-    let named = put_name(buf, at, number, cabinet, house);
-    cells::pad(buf, named, width(number, cabinet, house), column)
+    let named = put_name(rt, buf, at, number, cabinet, house);
+    cells::pad(rt, buf, named, width(number, cabinet, house), column)
 }

@@ -1,6 +1,5 @@
 -- Where text ends in a buffer. The buffer's end, as a place, says that a write failed.
-use Prim.Native.Nat.{ℕ, _≤_, _<_}
-use mathlib.Core.Path.{_≡_}
+use Rattle.std.specs.Prelude.{ℕ, ◌≤◌, ◌<◌, ◌≡◌}
 
 -- Text put from one place of a buffer on ends at another: no earlier, inside the buffer, and at the buffer's end only if it began there.
 pub record Put (size from to : ℕ) : Type 0 where

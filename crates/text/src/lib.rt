@@ -3,16 +3,20 @@
 //
 // The last place of the buffer stays free, so that the buffer's end, as a place, can say that a write failed. From there
 // nothing is put and nothing is written any more: no text ever follows a piece that was lost.
-ghost use mathlib.Core.Path.{_≡_};
-ghost use Prim.Native.Nat.{_≤_};
-ghost use lib.Dec.{eqb};
-ghost use lib.ListN.{length};
-ghost use Rattle·text·specs.specs.Places.{Put, Written};
+#![tactic(auto)]
+
+ghost use Rattle.std.specs.Prelude.{◌≡◌, ◌≤◌, eqb, length};
+ghost use Rattle.text.specs.Places.{Put, Written};
+
+use std::io::{Error, Write};
+
+// No error has more words.
+const MOST_TOLD: usize = 256;
 
 // One byte at `at`. Each function here answers the place after what it put.
 pub fn put(buf: &mut [u8], at: usize, b: u8) -> usize
-    requires { ⌜ at ≤ length (now buf) ⌝ }
-    ensures { λ r. ⌜ Put (length (now (buf .entry))) at r ⌝ }
+    requires { at ≤ length buf.old }
+    ensures { Put (length buf.old) at result }
 {
     if buf.len() - at <= 1 {
         return at;
@@ -22,8 +26,8 @@ pub fn put(buf: &mut [u8], at: usize, b: u8) -> usize
 }
 
 pub fn put_all(buf: &mut [u8], at: usize, text: &[u8]) -> usize
-    requires { ⌜ at ≤ length (now buf) ⌝ }
-    ensures { λ r. ⌜ Put (length (now (buf .entry))) at r ⌝ }
+    requires { at ≤ length buf.old }
+    ensures { Put (length buf.old) at result }
 {
     let mut end = at;
     let mut i: usize = 0;
@@ -36,8 +40,8 @@ pub fn put_all(buf: &mut [u8], at: usize, text: &[u8]) -> usize
 
 // A number in decimal.
 pub fn put_decimal(buf: &mut [u8], at: usize, x: u64) -> usize
-    requires { ⌜ at ≤ length (now buf) ⌝ }
-    ensures { λ r. ⌜ Put (length (now (buf .entry))) at r ⌝ }
+    requires { at ≤ length buf.old }
+    ensures { Put (length buf.old) at result }
 {
     if x < 10 {
         return put(buf, at, 48 + (x % 10) as u8);
@@ -49,8 +53,8 @@ pub fn put_decimal(buf: &mut [u8], at: usize, x: u64) -> usize
 
 // A mark and a number behind it.
 pub fn put_marked(buf: &mut [u8], at: usize, mark: u8, x: u64) -> usize
-    requires { ⌜ at ≤ length (now buf) ⌝ }
-    ensures { λ r. ⌜ Put (length (now (buf .entry))) at r ⌝ }
+    requires { at ≤ length buf.old }
+    ensures { Put (length buf.old) at result }
 {
     let end = put(buf, at, mark);
     put_decimal(buf, end, x)
@@ -58,34 +62,63 @@ pub fn put_marked(buf: &mut [u8], at: usize, mark: u8, x: u64) -> usize
 
 // Whether a write failed.
 pub fn lost(buf: &[u8], at: usize) -> bool
-    ensures { λ r. ⌜ r ≡ eqb at (length (now (buf .entry))) ⌝ }
+    ensures { result ≡ eqb at (length buf.now) }
 {
     at == buf.len()
 }
 
+// Says on a line of standard error what failed and why, in the system's words.
+pub fn fail<R: Eprint>(rt: &R, what: &str, error: Error) {
+    let mut told = [0u8; MOST_TOLD];
+    let reason = words_of(error, &mut told);
+    // Where this can't be written either, there is nobody left to tell.
+    let _ = eprintln!(rt; "{what}: {reason}");
+}
+
+// The words of an error, without the system's number that is printed behind them.
+fn words_of(error: Error, told: &mut [u8]) -> &str {
+    let size = told.len();
+    let mut rest = &mut *told;
+    let _ = write!(rest, "{error}");
+    let end = size.saturating_sub(rest.len());
+    match str::from_utf8(&told[..end]) {
+        Ok(all) => without_number(all),
+        Err(_) => "",
+    }
+}
+
+fn without_number(all: &str) -> &str {
+    match all.split_once(" (os error ") {
+        Some((words, _)) => words,
+        None => all,
+    }
+}
+
 // Writes out what stands in the buffer, and answers where to go on: at its start. Where the write fails it says so, and the
 // answer is the buffer's end, now and from then on.
-pub fn flush(buf: &[u8], at: usize) -> usize
-    requires { ⌜ at ≤ length (now buf) ⌝ }
-    ensures { λ r. ⌜ Written (length (now (buf .entry))) at r ⌝ }
+pub fn flush<R: Print + Eprint>(rt: &R, buf: &[u8], at: usize) -> usize
+    requires { at ≤ length buf.now }
+    ensures { Written (length buf.now) at result }
 {
     if at == buf.len() {
         return at;
     }
-    if io::write_all(libc::STDOUT_FILENO, &buf[..at]) {
-        return 0;
+    match rt.write_all(&buf[..at]) {
+        Ok(()) => 0,
+        Err(error) => {
+            fail(rt, "standard output", error);
+            buf.len()
+        }
     }
-    os::fail(b"standard output");
-    buf.len()
 }
 
 // Writes the buffer's front out where no more than `room` places are left, and answers where to go on.
-pub fn room(buf: &[u8], at: usize, room: usize) -> usize
-    requires { ⌜ at ≤ length (now buf) ⌝ }
-    ensures { λ r. ⌜ Written (length (now (buf .entry))) at r ⌝ }
+pub fn room<R: Print + Eprint>(rt: &R, buf: &[u8], at: usize, room: usize) -> usize
+    requires { at ≤ length buf.now }
+    ensures { Written (length buf.now) at result }
 {
     if buf.len() - at <= room {
-        return flush(buf, at);
+        return flush(rt, buf, at);
     }
     at
 }

@@ -1,42 +1,44 @@
 // The tolerances of the tasks whose numbers stand in columns.
-ghost use mathlib.Core.Path.{_≡_};
-ghost use Prim.Native.Nat.{_+_, _≤_, _<_, min};
-ghost use lib.IntN.{pos};
-ghost use Rattle·paper.specs.Numbers.{mostTicks, perTask};
-ghost use Rattle·paper.specs.Lengths.{tolerance};
-ghost use Rattle·columns.specs.Columns.{tasksBy, rankedBy, Ranged};
-ghost use Rattle·tolerance·specs.specs.Walk.{mostNeed, mostPart, valueOf, largerOf, withTask, lastInstant, Stretch, Tolerated};
-use columns::Numbers;
-use columns::Tasks;
+
+#![tactic(auto)]
+
+ghost use Rattle.std.specs.Prelude.{◌≡◌, ◌+◌, ◌≤◌, ◌<◌, min, pos};
+ghost use Rattle.paper.specs.Numbers.{most_ticks, per_task};
+ghost use Rattle.paper.specs.Lengths.{tolerance};
+ghost use Rattle.columns.specs.Columns.{tasks_by, ranked_by, Ranged};
+ghost use Rattle.tolerance.specs.Walk.{most_need, most_part, value_of, larger_of, with_task, last_instant, Stretch, Tolerated};
+
+use columns::{Numbers, Tasks};
 use paper::MOST_TASKS;
 
 // One signed number for each task.
 pub type Ticks = [i64; MOST_TASKS];
 
 // One of the differences that a tolerance is the largest of: `at` less `need`, which may be below zero.
+#[derive(Clone, Copy)]
 struct Slack {
     at: u64,
     need: u64,
 }
 
 fn least(a: u64, b: u64) -> u64
-    ensures { λ r. ⌜ r ≡ min a b ⌝ }
+    ensures { result ≡ min a b }
 {
     if a < b { a } else { b }
 }
 
 // Compared by two sums: no number is below zero on the way.
 fn larger(a: Slack, b: Slack) -> Slack
-    requires { ⌜ (a .at ≤ mostTicks) × (a .need ≤ mostNeed) × (b .at ≤ mostTicks) × (b .need ≤ mostNeed) ⌝ }
-    ensures { λ r. ⌜ r ≡ largerOf a b ⌝ }
+    requires { (a.at ≤ most_ticks) × (a.need ≤ most_need) × (b.at ≤ most_ticks) × (b.need ≤ most_need) }
+    ensures { result ≡ larger_of a b }
 {
     if a.at + b.need <= b.at + a.need { b } else { a }
 }
 
 // One division serves both the end of the stretch and the need in it. It fits 32 bits, in which many machines divide far quicker.
 fn with_task(s: Slack, above: bool, cost: u64, period: u64, jitter: u64, from: u64) -> Slack
-    requires { ⌜ (cost ≤ mostTicks) × (jitter < period) × (period ≤ mostTicks) × (from ≤ mostTicks) × (s .need + mostPart ≤ mostNeed) ⌝ }
-    ensures { λ r. ⌜ r ≡ withTask s above cost period jitter from ⌝ }
+    requires { (cost ≤ most_ticks) × (jitter < period) × (period ≤ most_ticks) × (from ≤ most_ticks) × (s.need + most_part ≤ most_need) }
+    ensures { result ≡ with_task s above cost period jitter from }
 {
     if above {
         let jobs = 1 + ((from + jitter) as u32 / period as u32) as u64;
@@ -51,10 +53,10 @@ fn with_task(s: Slack, above: bool, cost: u64, period: u64, jitter: u64, from: u
 
 // From `from` on to the next arrival of a task above i, or to `last`: no ceiling steps on the way.
 fn stretch(n: usize, y: &Tasks, p: &Numbers, i: usize, last: u64, from: u64) -> Slack
-    requires { ⌜ Ranged (tasksBy n (now y)) ⌝ }
-    requires { ⌜ i < n ⌝ }
-    requires { ⌜ (from < last) × (last ≤ mostTicks) ⌝ }
-    ensures { λ r. ⌜ Stretch (tasksBy n (now (y .entry))) (rankedBy (now (p .entry))) i last from r ⌝ }
+    requires ranged { Ranged (tasks_by n y.now) }
+    requires i_lt_n { i < n }
+    requires from_lt_last { (from < last) × (last ≤ most_ticks) }
+    ensures { Stretch (tasks_by n y.now) (ranked_by p.now) i last from result }
 {
     let rank = p[i];
     let mut s = Slack {
@@ -74,7 +76,7 @@ fn stretch(n: usize, y: &Tasks, p: &Numbers, i: usize, last: u64, from: u64) -> 
 
 // A tolerance is taken over t from 1 to D − J. Where there is no t it means nothing, and the difference at 1 stands for it.
 fn last_instant(deadline: u64, jitter: u64) -> u64
-    ensures { λ r. ⌜ r ≡ lastInstant deadline jitter ⌝ }
+    ensures { result ≡ last_instant deadline jitter }
 {
     if jitter < deadline {
         deadline - jitter
@@ -85,9 +87,9 @@ fn last_instant(deadline: u64, jitter: u64) -> u64
 
 // Between two ends of stretches the difference only rises, so the walk looks at the ends alone.
 fn tolerance_of(n: usize, y: &Tasks, p: &Numbers, i: usize) -> Slack
-    requires { ⌜ Ranged (tasksBy n (now y)) ⌝ }
-    requires { ⌜ i < n ⌝ }
-    ensures { λ r. ⌜ Tolerated (tasksBy n (now (y .entry))) (rankedBy (now (p .entry))) i r ⌝ }
+    requires ranged { Ranged (tasks_by n y.now) }
+    requires i_lt_n { i < n }
+    ensures { Tolerated (tasks_by n y.now) (ranked_by p.now) i result }
 {
     let d = columns::deadline(y, i);
     let late = columns::jitter(y, i);
@@ -102,17 +104,18 @@ fn tolerance_of(n: usize, y: &Tasks, p: &Numbers, i: usize) -> Slack
     best
 }
 
+// Both numbers are far below 2 ^ 63, so the machine's difference is exact.
 fn signed(s: Slack) -> i64
-    requires { ⌜ (s .at ≤ mostTicks) × (s .need ≤ mostNeed) ⌝ }
-    ensures { λ r. ⌜ r ≡ valueOf s ⌝ }
+    requires { (s.at ≤ most_ticks) × (s.need ≤ most_need) }
+    ensures { result ≡ value_of s }
 {
     (s.at as i64) - (s.need as i64)
 }
 
 // The tolerances of records 1 to n, each worked out once.
 pub fn all_tolerances(n: usize, y: &Tasks, p: &Numbers) -> Ticks
-    requires { ⌜ Ranged (tasksBy n (now y)) ⌝ }
-    ensures { λ r. ⌜ r ≡ perTask n (tolerance (tasksBy n (now (y .entry))) (rankedBy (now (p .entry)))) (pos 0) ⌝ }
+    requires { Ranged (tasks_by n y.now) }
+    ensures { result ≡ per_task n (tolerance (tasks_by n y.now) (ranked_by p.now)) (pos 0) }
 {
     let mut ticks = [0i64; MOST_TASKS];
     let mut i: usize = 0;

@@ -1,20 +1,20 @@
 -- The sample file two-jobs-assigned, from the definitions: what the writer makes of the two jobs as edition 1, byte for byte, and that it takes them.
 -- The same of the two jobs with jitters 3 and 9 as edition 2: what it makes of them, that this reads and as what, and that edition 1 has no place for them.
-use mathlib.Core.Path.{_≡_, refl}
-use mathlib.Core.List.{List, [], _∷_}
+use mathlib.Core.Path.{◌≡◌, refl}
+use mathlib.Core.List.{List, [], ◌∷◌}
 use Prim.Native.Nat.{ℕ}
-use Rattle·paper.specs.Vocabulary.{every, sumTo, listTo}
-use Rattle·paper.specs.Numbers.{eachOnce, thresholdsHold, perTask}
-use Rattle·paper.specs.Bits.{bitAt, field, withBit, putBit, putField, putFields}
-use Rattle·paper.specs.Seal.{sealBit, sealBits, sealByte, sealFrom}
-use Rattle·paper.specs.File.{spareClear, sealed, editionIn, regionWords, ownWords, tableIn, putHead, putRecords, putWords, putSeal, fileOf}
-use Rattle·paper.specs.Regions.{regionsHold, allRegionsHold}
-use Rattle·paper.specs.Answers.{readOutcome, writeOutcome}
-use Rattle·paper.specs.declared.Outcome.the-variants.{Done, Refused}
-use Rattle·paper.specs.declared.Refusal.the-variants.{JitterInEditionOne}
-use Rattle·paper.specs.declared.Source.the-variants.{Own}
-use Rattle·paper.specs.declared.Table.{Table}
-use Rattle·trips·proofs.proofs.Trips.{zeroPast}
+use Rattle.paper.specs.Vocabulary.{every, sum_to, list_to}
+use Rattle.paper.specs.Numbers.{each_once, thresholds_hold, per_task}
+use Rattle.paper.specs.Bits.{bit_at, field, with_bit, put_bit, put_field, put_fields}
+use Rattle.paper.specs.Seal.{seal_bit, seal_bits, seal_byte, seal_from}
+use Rattle.paper.specs.File.{spare_clear, sealed, edition_in, region_words, own_words, table_in, put_head, put_records, put_words, put_seal, file_of}
+use Rattle.paper.specs.Regions.{regions_hold, all_regions_hold}
+use Rattle.paper.specs.Answers.{read_outcome, write_outcome}
+use Rattle.paper.specs.declared.Outcome.TheVariants.{Done, Refused}
+use Rattle.paper.specs.declared.Refusal.TheVariants.{JitterInEditionOne}
+use Rattle.paper.specs.declared.Source.TheVariants.{Own}
+use Rattle.paper.specs.declared.Table.{Table}
+use Rattle.trips.proofs.Trips.{zero_past}
 
 -- the two jobs, with jitters j and k
 abbrev jobs : ℕ → ℕ → Table
@@ -28,18 +28,18 @@ jobs j k = record {
 abbrev words : List ℕ
 words = 2 ∷ 3 ∷ 1 ∷ []
 
-pub sample-taken : writeOutcome 1 (jobs 0 0) 70002 12 words [] 42 ≡ Done
-unfolding every sumTo eachOnce thresholdsHold regionsHold allRegionsHold
-sample-taken = refl
+pub sample_taken : write_outcome 1 (jobs 0 0) 70002 12 words [] 42 ≡ Done
+unfolding every sum_to each_once thresholds_hold regions_hold all_regions_hold
+sample_taken = refl
 
-pub sample-file : fileOf 1 (jobs 0 0) 70002 12 words ≡
+pub sample_file : file_of 1 (jobs 0 0) 70002 12 words ≡
     0x10 ∷ 0x01 ∷ 0x11 ∷ 0x72 ∷ 0x00 ∷ 0x0c ∷ 0x02 ∷ 0x03 ∷
     0x00 ∷ 0x00 ∷ 0x20 ∷ 0x00 ∷ 0x05 ∷ 0x00 ∷ 0x00 ∷ 0x51 ∷ 0x10 ∷ 0x00 ∷ 0x20 ∷ 0x00 ∷
     0x00 ∷ 0x00 ∷ 0x40 ∷ 0x00 ∷ 0x0a ∷ 0x00 ∷ 0x00 ∷ 0xa2 ∷ 0x20 ∷ 0x10 ∷ 0x40 ∷ 0x40 ∷
     0x00 ∷ 0x00 ∷ 0x20 ∷ 0x00 ∷ 0x03 ∷ 0x00 ∷ 0x00 ∷ 0x10 ∷
     0x81 ∷ 0x1c ∷ []
-unfolding fileOf putSeal putWords putRecords putHead putFields putField putBit withBit sealFrom sealByte sealBits sealBit
-sample-file = refl
+unfolding file_of put_seal put_words put_records put_head put_fields put_field put_bit with_bit seal_from seal_byte seal_bits seal_bit
+sample_file = refl
 
 -- Edition 2
 abbrev second : List ℕ
@@ -50,23 +50,23 @@ second =
     0x00 ∷ 0x00 ∷ 0x20 ∷ 0x00 ∷ 0x03 ∷ 0x00 ∷ 0x00 ∷ 0x10 ∷
     0xd4 ∷ 0x80 ∷ []
 
-pub late-taken : writeOutcome 2 (jobs 3 9) 70002 12 words [] 48 ≡ Done
-unfolding every sumTo eachOnce thresholdsHold regionsHold allRegionsHold
-late-taken = refl
+pub late_taken : write_outcome 2 (jobs 3 9) 70002 12 words [] 48 ≡ Done
+unfolding every sum_to each_once thresholds_hold regions_hold all_regions_hold
+late_taken = refl
 
-pub late-file : fileOf 2 (jobs 3 9) 70002 12 words ≡ second
-unfolding fileOf putSeal putWords putRecords putHead putFields putField putBit withBit sealFrom sealByte sealBits sealBit
-late-file = refl
+pub late_file : file_of 2 (jobs 3 9) 70002 12 words ≡ second
+unfolding file_of put_seal put_words put_records put_head put_fields put_field put_bit with_bit seal_from seal_byte seal_bits seal_bit
+late_file = refl
 
-pub late-reads : readOutcome second 70002 12 [] 3 ≡ Done
-unfolding every sumTo listTo perTask bitAt field spareClear sealed sealFrom sealByte sealBits sealBit regionWords eachOnce thresholdsHold regionsHold allRegionsHold
-late-reads = refl
+pub late_reads : read_outcome second 70002 12 [] 3 ≡ Done
+unfolding every sum_to list_to per_task bit_at field spare_clear sealed seal_from seal_byte seal_bits seal_bit region_words each_once thresholds_hold regions_hold all_regions_hold
+late_reads = refl
 
-pub late-says : (editionIn second ≡ 2) × (tableIn second ≡ zeroPast (jobs 3 9)) × (ownWords second ≡ words)
-unfolding listTo perTask bitAt field regionWords
-late-says = (refl, refl, refl)
+pub late_says : (edition_in second ≡ 2) × (table_in second ≡ zero_past (jobs 3 9)) × (own_words second ≡ words)
+unfolding list_to per_task bit_at field region_words
+late_says = (refl, refl, refl)
 
 -- 19
-pub late-refused : writeOutcome 1 (jobs 3 9) 70002 12 words [] 48 ≡ Refused JitterInEditionOne
-unfolding every sumTo eachOnce thresholdsHold regionsHold allRegionsHold
-late-refused = refl
+pub late_refused : write_outcome 1 (jobs 3 9) 70002 12 words [] 48 ≡ Refused JitterInEditionOne
+unfolding every sum_to each_once thresholds_hold regions_hold all_regions_hold
+late_refused = refl

@@ -1,24 +1,22 @@
 // What a file of known size says: its records, its region words, and whether its spare bits are clear.
-ghost use mathlib.Core.Path.{_≡_};
-ghost use Prim.Native.Nat.{_+_};
-ghost use lib.Dec.{eqb};
-ghost use lib.ListN.{length};
-ghost use Rattle·paper.specs.Vocabulary.{every};
-ghost use Rattle·paper.specs.Numbers.{zeroRecord};
-ghost use Rattle·paper.specs.Bits.{field, fieldsAt};
-ghost use Rattle·paper.specs.File.{inEdition, recordWidths, recordFields, recordFrom, spareFrom, recordsIn, sourceOf, spareClear};
-ghost use Rattle·paper.specs.Answers.{noTable};
-ghost use Rattle·layout.specs.Places.{Holds, Lies};
-ghost use Rattle·unpack·specs.specs.Unpack.{Sized, wordsArray};
-use paper::Record;
-use paper::Source;
-use paper::Table;
+#![tactic(auto)]
+
+ghost use Rattle.std.specs.Prelude.{◌≡◌, ◌+◌, eqb, length};
+ghost use Rattle.paper.specs.Vocabulary.{every};
+ghost use Rattle.paper.specs.Numbers.{zero_record};
+ghost use Rattle.paper.specs.Bits.{field, fields_at};
+ghost use Rattle.paper.specs.File.{in_edition, record_widths, record_fields, record_from, spare_from, records_in, source_of, spare_clear};
+ghost use Rattle.paper.specs.Answers.{no_table};
+ghost use Rattle.layout.specs.Places.{Holds, Lies};
+ghost use Rattle.unpack.specs.Unpack.{Sized, words_array};
+
+use paper::{Record, Source, Table};
 
 // Edition 1 has no place for a jitter.
 const NO_JITTER: u32 = 0;
 
 fn source_of(bit: u64) -> Source
-    ensures { λ r. ⌜ r ≡ sourceOf bit ⌝ }
+    ensures { result ≡ source_of bit }
 {
     if bit == 0 {
         Source::Own
@@ -28,7 +26,7 @@ fn source_of(bit: u64) -> Source
 }
 
 fn zero_record() -> Record
-    ensures { λ r. ⌜ r ≡ zeroRecord ⌝ }
+    ensures { result ≡ zero_record }
 {
     Record {
         cost: 0,
@@ -46,7 +44,7 @@ fn zero_record() -> Record
 
 // The table of a refusal.
 pub fn no_table() -> Table
-    ensures { λ r. ⌜ r ≡ noTable ⌝ }
+    ensures { result ≡ no_table }
 {
     let z = zero_record();
     Table {
@@ -57,8 +55,8 @@ pub fn no_table() -> Table
 
 // What stands behind the used bits of the record that begins at bit `at`: in edition 2 its jitter,
 fn jitter_in(f: &[u8], edition: u8, at: usize) -> u32
-    requires { ⌜ Lies (length (now f)) edition at ⌝ }
-    ensures { λ r. ⌜ r ≡ inEdition edition 0 (field (now (f .entry)) (at + 90) 20) ⌝ }
+    requires { Lies (length f.now) edition at }
+    ensures { result ≡ in_edition edition 0 (field f.now (at + 90) 20) }
 {
     if edition == layout::EDITION_TWO {
         return bits::get(f, at + layout::RECORD_USED, layout::JITTER_BITS) as u32;
@@ -68,8 +66,8 @@ fn jitter_in(f: &[u8], edition: u8, at: usize) -> u32
 
 // and last its spare bits.
 fn spare_in(f: &[u8], edition: u8, at: usize) -> u64
-    requires { ⌜ Lies (length (now f)) edition at ⌝ }
-    ensures { λ r. ⌜ r ≡ inEdition edition (field (now (f .entry)) (at + 90) 6) (field (now (f .entry)) (at + 110) 10) ⌝ }
+    requires { Lies (length f.now) edition at }
+    ensures { result ≡ in_edition edition (field f.now (at + 90) 6) (field f.now (at + 110) 10) }
 {
     if edition == layout::EDITION_TWO {
         return bits::get(
@@ -83,8 +81,8 @@ fn spare_in(f: &[u8], edition: u8, at: usize) -> u64
 
 // The record that begins there.
 fn record_in(f: &[u8], edition: u8, at: usize) -> Record
-    requires { ⌜ Lies (length (now f)) edition at ⌝ }
-    ensures { λ r. ⌜ r ≡ recordFrom edition (fieldsAt (now (f .entry)) at (recordWidths edition)) ⌝ }
+    requires { Lies (length f.now) edition at }
+    ensures { result ≡ record_from edition (fields_at f.now at (record_widths edition)) }
 {
     let cost = bits::get(f, at, 20) as u32;
     let period = bits::get(f, at + 20, 20) as u32;
@@ -112,8 +110,8 @@ fn record_in(f: &[u8], edition: u8, at: usize) -> Record
 
 // The table of the first n records; the others are zero.
 pub fn table_in(f: &[u8], edition: u8, n: usize) -> Table
-    requires { ⌜ Holds (length (now f)) edition n ⌝ }
-    ensures { λ r. ⌜ (r .n ≡ n) × (r .records ≡ recordsIn (now (f .entry)) edition n) ⌝ }
+    requires { Holds (length f.now) edition n }
+    ensures { (result.n ≡ n) × (result.records ≡ records_in f.now edition n) }
 {
     let z = zero_record();
     let mut records = [z; paper::MOST_TASKS];
@@ -128,8 +126,8 @@ pub fn table_in(f: &[u8], edition: u8, n: usize) -> Table
 
 // The m region words after n records, at the front of an array of zeros.
 pub fn words_in(f: &[u8], edition: u8, n: usize, m: usize) -> [u32; paper::MOST_WORDS]
-    requires { ⌜ Sized (now f) edition n m ⌝ }
-    ensures { λ r. ⌜ r ≡ wordsArray (now (f .entry)) edition n m ⌝ }
+    requires { Sized f.now edition n m }
+    ensures { result ≡ words_array f.now edition n m }
 {
     let mut words = [0u32; paper::MOST_WORDS];
     let mut k: usize = 0;
@@ -142,8 +140,8 @@ pub fn words_in(f: &[u8], edition: u8, n: usize, m: usize) -> [u32; paper::MOST_
 }
 
 fn records_spare_clear(f: &[u8], edition: u8, n: usize) -> bool
-    requires { ⌜ Holds (length (now f)) edition n ⌝ }
-    ensures { λ r. ⌜ r ≡ every n (λ k. eqb (spareFrom edition (recordFields (now (f .entry)) edition k)) 0) ⌝ }
+    requires { Holds (length f.now) edition n }
+    ensures { result ≡ every n (λ k. eqb (spare_from edition (record_fields f.now edition k)) 0) }
 {
     let mut ok = true;
     let mut k: usize = 0;
@@ -157,8 +155,8 @@ fn records_spare_clear(f: &[u8], edition: u8, n: usize) -> bool
 
 // Are the spare bits of the head and of the n records clear, and the filler after the m words?
 pub fn spare_clear(f: &[u8], edition: u8, n: usize, m: usize) -> bool
-    requires { ⌜ Sized (now f) edition n m ⌝ }
-    ensures { λ r. ⌜ r ≡ spareClear (now (f .entry)) edition n m ⌝ }
+    requires { Sized f.now edition n m }
+    ensures { result ≡ spare_clear f.now edition n m }
 {
     let head = bits::get(f, 4, 4);
     let records = records_spare_clear(f, edition, n);

@@ -1,13 +1,15 @@
 // The notes under the table, and the verdict. specs/Verdicts.antt says what each is by the calls' answers.
-ghost use mathlib.Core.Path.{_≡_};
-ghost use Rattle·verdicts·specs.specs.Verdicts.{firstNote, notShown, deadlinesOf, fitOf, verdictOf};
+#![tactic(auto)]
+
+ghost use Rattle.std.specs.Prelude.{◌≡◌};
+ghost use Rattle.verdicts.specs.Verdicts.{first_note, not_shown, deadlines_of, fit_of, verdict_of};
+
 use first_jobs::Asked;
-use paper::FitAnswer;
-use paper::Outcome;
-use paper::Refusal;
+use paper::{FitAnswer, Outcome, Refusal};
 use show_facts::Facts;
 
 // Why there are dashes in the table: the first call that turned it away.
+#[derive(Clone, Copy)]
 pub enum Note {
     Times(Refusal),
     Tolerances(Refusal),
@@ -16,24 +18,27 @@ pub enum Note {
 }
 
 // Missed and TooLong hold the number of the first such job.
+#[derive(Clone, Copy)]
 pub enum Deadlines {
     Kept,
     Missed(usize),
 }
 
+#[derive(Clone, Copy)]
 pub enum Fit {
     Fitting,
     TooLong(usize),
     NotChecked,
 }
 
+#[derive(Clone, Copy)]
 pub enum Verdict {
     Checked(Deadlines, Fit),
     Unchecked,
 }
 
 fn first_note(times: Outcome, tolerances: Outcome, lengths: Outcome) -> Note
-    ensures { λ r. ⌜ r ≡ firstNote times tolerances lengths ⌝ }
+    ensures { result ≡ first_note times tolerances lengths }
 {
     if let Outcome::Refused(r) = times {
         return Note::Times(r);
@@ -48,7 +53,7 @@ fn first_note(times: Outcome, tolerances: Outcome, lengths: Outcome) -> Note
 }
 
 pub fn note_of(f: Facts) -> Note
-    ensures { λ r. ⌜ r ≡ firstNote (f .times .outcome) (f .tolerances .outcome) (f .lengths .outcome) ⌝ }
+    ensures { result ≡ first_note f.times.outcome f.tolerances.outcome f.lengths.outcome }
 {
     let times = f.times;
     let tolerances = f.tolerances;
@@ -61,7 +66,7 @@ pub fn note_of(f: Facts) -> Note
 
 // The number of the first job that the test of fixed preemption points doesn't show, or 0; 0 where the test is turned away.
 pub fn not_shown(f: Facts) -> usize
-    ensures { λ r. ⌜ r ≡ notShown f ⌝ }
+    ensures { result ≡ not_shown f }
 {
     let points = f.points;
     let outcome = points.outcome;
@@ -72,7 +77,7 @@ pub fn not_shown(f: Facts) -> usize
 }
 
 fn deadlines_of(late: usize) -> Deadlines
-    ensures { λ r. ⌜ r ≡ deadlinesOf late ⌝ }
+    ensures { result ≡ deadlines_of late }
 {
     if late == 0 {
         return Deadlines::Kept;
@@ -81,7 +86,7 @@ fn deadlines_of(late: usize) -> Deadlines
 }
 
 fn fit_of(check: FitAnswer, unfit: usize) -> Fit
-    ensures { λ r. ⌜ r ≡ fitOf check unfit ⌝ }
+    ensures { result ≡ fit_of check unfit }
 {
     match check {
         FitAnswer::Fits => Fit::Fitting,
@@ -91,7 +96,7 @@ fn fit_of(check: FitAnswer, unfit: usize) -> Fit
 }
 
 pub fn verdict_of(f: Facts) -> Verdict
-    ensures { λ r. ⌜ r ≡ verdictOf f ⌝ }
+    ensures { result ≡ verdict_of f }
 {
     let times = f.times;
     let outcome = times.outcome;

@@ -1,28 +1,28 @@
 -- What a line on an active period means by document 01, by the jobs' own finishes, and exactly which task has which line.
-use Prim.Native.Nat.{ℕ, _+_, _-_, _≤_, _<_}
-use mathlib.Core.Path.{_≡_, refl, sym, ap, subst, _∙_}
+use Prim.Native.Nat.{ℕ, ◌+◌, ◌-◌, ◌≤◌, ◌<◌}
+use mathlib.Core.Path.{◌≡◌, refl, sym, ap, subst, ◌∙◌}
 use mathlib.Core.Bool.{Bool, true, false, cond}
 use mathlib.Core.List.{List}
-use mathlib.Core.Logic.{_↔_, _⊎_, inl, inr, ⊎-elim}
+use mathlib.Core.Logic.{◌↔◌, ◌⊎◌, inl, inr, ⊎_elim}
 use native.Mathlib.Omega.{arith}
 use borrow.Author.Tests.{leb-true, leb-false, lt-leb, eqb-true, eqb-false}
 use lib.Dec.{leb, eqb}
-use Rattle·paper.specs.Numbers.{assigned}
-use Rattle·paper.specs.Analysis.{Tasks, Standing, tasksOf, standing, response, withJob, within, taskPasses}
-use Rattle·paper.specs.Refusals.{firstOf, timesAsks}
-use Rattle·paper.specs.Answers.{whenDone, noTime}
-use Rattle·paper.specs.declared.Response.{Response}
-use Rattle·paper.specs.declared.Table.{Table}
-use Rattle·paper.specs.declared.Outcome.the-variants.{Done}
-use Rattle·paper.specs.declared.Time.{Time}
-use Rattle·paper.specs.declared.Time.the-variants.{At, Beyond}
-use Rattle·paper.proofs.Responses.{Largest}
-use Rattle·response.proofs.Answered.{entry, answered, answered-largest, answered-beyond}
-use Rattle·show_facts.specs.Facts.{factsOf}
-use Rattle·worst_jobs·specs.specs.WorstJobs.{worstBy, worstAt}
-use Rattle·worst_jobs·specs.specs.declared.Worst.{Worst}
-use Rattle·worst_jobs·specs.specs.declared.Worst.the-variants.{Nothing, Later, Late, Unknown}
-use Rattle·worst_jobs·proofs.proofs.Says.{worst-late, worst-first, worst-later}
+use Rattle.paper.specs.Numbers.{assigned}
+use Rattle.paper.specs.Analysis.{Tasks, Standing, tasks_of, standing, response, with_job, within, task_passes}
+use Rattle.paper.specs.Refusals.{first_of, times_asks}
+use Rattle.paper.specs.Answers.{when_done, no_time}
+use Rattle.paper.specs.declared.Response.{Response}
+use Rattle.paper.specs.declared.Table.{Table}
+use Rattle.paper.specs.declared.Outcome.TheVariants.{Done}
+use Rattle.paper.specs.declared.Time.{Time}
+use Rattle.paper.specs.declared.Time.TheVariants.{At, Beyond}
+use Rattle.paper.proofs.Responses.{Largest}
+use Rattle.response.proofs.Answered.{entry, answered, answered_largest, answered_beyond}
+use Rattle.show_facts.specs.Facts.{facts_of}
+use Rattle.worst_jobs.specs.WorstJobs.{worst_by, worst_at}
+use Rattle.worst_jobs.specs.declared.Worst.{Worst}
+use Rattle.worst_jobs.specs.declared.Worst.TheVariants.{Nothing, Later, Late, Unknown}
+use Rattle.worst_jobs.proofs.Says.{worst_late, worst_first, worst_later}
 
 -- what a line says of a response time x that job k reached
 module _ (x k d : ℕ) where
@@ -32,127 +32,127 @@ module _ (x k d : ℕ) where
     pub late : (j by : ℕ) → p ≡ Late j by → (1 ≤ by) × (x ≡ d + by) × (k ≡ j)
     pub known : p ≡ Unknown → ⊥
 
-  said : Said (worstBy (At x) k d)
+  said : Said (worst_by (At x) k d)
   said = go (leb x d) refl (eqb k 0) refl
     where
       go : (a : Bool) → leb x d ≡ a → (b : Bool) → eqb k 0 ≡ b → Said (cond a (cond b Nothing (Later k)) (Late k (x - d)))
       go true e true f =
           record {
             first = λ h. (leb-true x d e, eqb-true k 0 f);
-            later = λ j h. let z : _≡_ {A = ℕ} 0 1 = cc in absurd (omega arith);
-            late = λ j by h. let z : _≡_ {A = ℕ} 0 1 = cc in absurd (omega arith);
-            known = λ h. let z : _≡_ {A = ℕ} 0 1 = cc in omega arith;
+            later = λ j h. let z : ◌≡◌ {A = ℕ} 0 1 = cc in absurd (omega arith);
+            late = λ j by h. let z : ◌≡◌ {A = ℕ} 0 1 = cc in absurd (omega arith);
+            known = λ h. let z : ◌≡◌ {A = ℕ} 0 1 = cc in omega arith;
           }
       go true e false f =
           record {
-            first = λ h. let z : _≡_ {A = ℕ} 0 1 = cc in absurd (omega arith);
+            first = λ h. let z : ◌≡◌ {A = ℕ} 0 1 = cc in absurd (omega arith);
             later = λ j h. let z : k ≡ j = cc in (leb-true x d e, omega (arith, eqb-false k 0 f), z);
-            late = λ j by h. let z : _≡_ {A = ℕ} 0 1 = cc in absurd (omega arith);
-            known = λ h. let z : _≡_ {A = ℕ} 0 1 = cc in omega arith;
+            late = λ j by h. let z : ◌≡◌ {A = ℕ} 0 1 = cc in absurd (omega arith);
+            known = λ h. let z : ◌≡◌ {A = ℕ} 0 1 = cc in omega arith;
           }
       go false e b f =
           record {
-            first = λ h. let z : _≡_ {A = ℕ} 0 1 = cc in absurd (omega arith);
-            later = λ j h. let z : _≡_ {A = ℕ} 0 1 = cc in absurd (omega arith);
+            first = λ h. let z : ◌≡◌ {A = ℕ} 0 1 = cc in absurd (omega arith);
+            later = λ j h. let z : ◌≡◌ {A = ℕ} 0 1 = cc in absurd (omega arith);
             late = λ j by h. let z : k ≡ j = cc in let w : x - d ≡ by = cc in let l = leb-false x d e in (omega arith, omega arith, z);
-            known = λ h. let z : _≡_ {A = ℕ} 0 1 = cc in omega arith;
+            known = λ h. let z : ◌≡◌ {A = ℕ} 0 1 = cc in omega arith;
           }
 
 -- of a table whose response times are answered, and task i of it
-module _ (t : Table) (own catalogue : List ℕ) (done : firstOf (timesAsks t) ≡ Done) (i : ℕ) (among : i < t .n) where
+module _ (t : Table) (own catalogue : List ℕ) (done : first_of (times_asks t) ≡ Done) (i : ℕ) (among : i < t.n) where
   abbrev y : Tasks
-  y = tasksOf (t .records) (t .n)
+  y = tasks_of t.records t.n
 
   abbrev s : Standing
-  s = standing y (assigned (t .records)) i
+  s = standing y (assigned t.records) i
 
   abbrev line : Worst
-  line = worstAt (factsOf t own catalogue) i
+  line = worst_at (facts_of t own catalogue) i
 
   -- the line by what is answered
-  line-is : (r : Response) → entry t i noTime ≡ r → line ≡ worstBy (r .time) (r .job) (y .d i)
-  line-is r e =
-      ap (λ o. whenDone o (worstBy (entry t i noTime .time) (entry t i noTime .job) (y .d i)) Nothing) done
-      ∙ ap (λ (v : Response). worstBy (v .time) (v .job) (y .d i)) e
+  line_is : (r : Response) → entry t i no_time ≡ r → line ≡ worst_by r.time r.job (y.d i)
+  line_is r e =
+      ap (λ o. when_done o (worst_by (entry t i no_time).time (entry t i no_time).job (y.d i)) Nothing) done
+      ∙ ap (λ (v : Response). worst_by v.time v.job (y.d i)) e
 
-  line-there : (x k : ℕ) → Largest y s i x k → line ≡ worstBy (At x) k (y .d i)
-  line-there x k g = line-is _ (answered-largest t i noTime done among x k .1 g)
+  line_there : (x k : ℕ) → Largest y s i x k → line ≡ worst_by (At x) k (y.d i)
+  line_there x k g = line_is _ ((answered_largest t i no_time done among x k).1 g)
 
-  line-beyond : response y s i ≡ Beyond → line ≡ Unknown
-  line-beyond e = line-is _ (answered-beyond t i noTime done among .1 e)
+  line_beyond : response y s i ≡ Beyond → line ≡ Unknown
+  line_beyond e = line_is _ ((answered_beyond t i no_time done among).1 e)
 
   -- there is a response time, or it is beyond
   either : ((x : ℕ) × (k : ℕ) × Largest y s i x k) ⊎ (response y s i ≡ Beyond)
-  unfolding withJob
+  unfolding with_job
   either = go (response y s i) refl
     where
       go : (v : Time) → response y s i ≡ v → ((x : ℕ) × (k : ℕ) × Largest y s i x k) ⊎ (response y s i ≡ Beyond)
       go (At x) e =
-          let k = withJob y s i .job in
-          inl (x, k, answered-largest t i noTime done among x k .0 (answered t i noTime done among ∙ ap (λ v. record { time = v; job = k }) e))
+          let k = (with_job y s i).job in
+          inl (x, k, (answered_largest t i no_time done among x k).0 (answered t i no_time done among ∙ ap (λ v. record { time = v; job = k }) e))
       go Beyond e = inr e
 
   -- job k is the worst, and late: its F + J(i) − k·T(i) is D(i) + by
-  pub late-line : (k by : ℕ) → (line ≡ Late k by) ↔ ((1 ≤ by) × Largest y s i (y .d i + by) k)
-  late-line k by = (λ e. ⊎-elim (there e) (λ b. let z : _≡_ {A = ℕ} 0 1 = cc (line-beyond b, e) in absurd (omega arith)) either, gives)
+  pub late_line : (k by : ℕ) → (line ≡ Late k by) ↔ ((1 ≤ by) × Largest y s i (y.d i + by) k)
+  late_line k by = (λ e. ⊎_elim (there e) (λ b. let z : ◌≡◌ {A = ℕ} 0 1 = cc (line_beyond b, e) in absurd (omega arith)) either, gives)
     where
-      there : line ≡ Late k by → (x : ℕ) × (j : ℕ) × Largest y s i x j → (1 ≤ by) × Largest y s i (y .d i + by) k
+      there : line ≡ Late k by → (x : ℕ) × (j : ℕ) × Largest y s i x j → (1 ≤ by) × Largest y s i (y.d i + by) k
       there e g =
-          let v = said (g .0) (g .1) (y .d i) .late k by (sym (line-there (g .0) (g .1) (g .2)) ∙ e) in
-          (v .0, rw (← v .1, ← v .2) (g .2))
+          let v = (said g.0 g.1 (y.d i)).late k by (sym (line_there g.0 g.1 g.2) ∙ e) in
+          (v.0, rw (← v.1, ← v.2) g.2)
 
-      gives : (1 ≤ by) × Largest y s i (y .d i + by) k → line ≡ Late k by
+      gives : (1 ≤ by) × Largest y s i (y.d i + by) k → line ≡ Late k by
       gives g =
-          let z : y .d i + by - y .d i ≡ by = omega arith in
-          line-there _ k (g .1) ∙ sym (worst-late (At (y .d i + by)) _ k (y .d i) refl (omega (arith, g .0))) ∙ ap (Late k) z
+          let z : y.d i + by - y.d i ≡ by = omega arith in
+          line_there _ k g.1 ∙ sym (worst_late (At (y.d i + by)) _ k (y.d i) refl (omega (arith, g.0))) ∙ ap (Late k) z
 
   -- a later job is the worst, and in time
-  pub later-line : (k : ℕ) → (line ≡ Later k) ↔ ((1 ≤ k) × ((r : ℕ) × (r ≤ y .d i) × Largest y s i r k))
-  later-line k = (
-    λ e. ⊎-elim (there e) (λ b. let z : _≡_ {A = ℕ} 0 1 = cc (line-beyond b, e) in absurd (omega arith)) either,
-    λ g. line-there _ k (g .1 .2) ∙ sym (worst-later (At (g .1 .0)) _ k (y .d i) refl (g .1 .1) (λ q. omega (arith, g .0))),
+  pub later_line : (k : ℕ) → (line ≡ Later k) ↔ ((1 ≤ k) × ((r : ℕ) × (r ≤ y.d i) × Largest y s i r k))
+  later_line k = (
+    λ e. ⊎_elim (there e) (λ b. let z : ◌≡◌ {A = ℕ} 0 1 = cc (line_beyond b, e) in absurd (omega arith)) either,
+    λ g. line_there _ k g.1.2 ∙ sym (worst_later (At g.1.0) _ k (y.d i) refl g.1.1 (λ q. omega (arith, g.0))),
   )
     where
-      there : line ≡ Later k → (x : ℕ) × (j : ℕ) × Largest y s i x j → (1 ≤ k) × ((r : ℕ) × (r ≤ y .d i) × Largest y s i r k)
+      there : line ≡ Later k → (x : ℕ) × (j : ℕ) × Largest y s i x j → (1 ≤ k) × ((r : ℕ) × (r ≤ y.d i) × Largest y s i r k)
       there e g =
-          let v = said (g .0) (g .1) (y .d i) .later k (sym (line-there (g .0) (g .1) (g .2)) ∙ e) in
-          (rw (← v .2) (v .1), (g .0, v .0, rw (← v .2) (g .2)))
+          let v = (said g.0 g.1 (y.d i)).later k (sym (line_there g.0 g.1 g.2) ∙ e) in
+          (rw (← v.2) v.1, (g.0, v.0, rw (← v.2) g.2))
 
   -- job 0 is, and in time: there is no line
-  pub no-line : (line ≡ Nothing) ↔ ((r : ℕ) × (r ≤ y .d i) × Largest y s i r 0)
-  no-line = (
-    λ e. ⊎-elim (there e) (λ b. let z : _≡_ {A = ℕ} 0 1 = cc (line-beyond b, e) in absurd (omega arith)) either,
-    λ g. line-there _ 0 (g .2) ∙ sym (worst-first (At (g .0)) _ 0 (y .d i) refl (g .1) refl),
+  pub no_line : (line ≡ Nothing) ↔ ((r : ℕ) × (r ≤ y.d i) × Largest y s i r 0)
+  no_line = (
+    λ e. ⊎_elim (there e) (λ b. let z : ◌≡◌ {A = ℕ} 0 1 = cc (line_beyond b, e) in absurd (omega arith)) either,
+    λ g. line_there _ 0 g.2 ∙ sym (worst_first (At g.0) _ 0 (y.d i) refl g.1 refl),
   )
     where
-      there : line ≡ Nothing → (x : ℕ) × (j : ℕ) × Largest y s i x j → (r : ℕ) × (r ≤ y .d i) × Largest y s i r 0
+      there : line ≡ Nothing → (x : ℕ) × (j : ℕ) × Largest y s i x j → (r : ℕ) × (r ≤ y.d i) × Largest y s i r 0
       there e g =
-          let v = said (g .0) (g .1) (y .d i) .first (sym (line-there (g .0) (g .1) (g .2)) ∙ e) in
-          (g .0, v .0, subst (Largest y s i (g .0)) (v .1) (g .2))
+          let v = (said g.0 g.1 (y.d i)).first (sym (line_there g.0 g.1 g.2) ∙ e) in
+          (g.0, v.0, subst (Largest y s i g.0) v.1 g.2)
 
   -- there is no response time
-  pub unknown-line : (line ≡ Unknown) ↔ (response y s i ≡ Beyond)
-  unknown-line = (
-    λ e. ⊎-elim (λ g. absurd (said (g .0) (g .1) (y .d i) .known (sym (line-there (g .0) (g .1) (g .2)) ∙ e))) (λ b. b) either,
-    line-beyond,
+  pub unknown_line : (line ≡ Unknown) ↔ (response y s i ≡ Beyond)
+  unknown_line = (
+    λ e. ⊎_elim (λ g. absurd ((said g.0 g.1 (y.d i)).known (sym (line_there g.0 g.1 g.2) ∙ e))) (λ b. b) either,
+    line_beyond,
   )
 
   time-at : (x k : ℕ) → Largest y s i x k → response y s i ≡ At x
-  unfolding withJob
-  time-at x k g = ap (λ (r : Response). r .time) (sym (answered t i noTime done among) ∙ answered-largest t i noTime done among x k .1 g)
+  unfolding with_job
+  time-at x k g = ap (λ (r : Response). r.time) (sym (answered t i no_time done among) ∙ (answered_largest t i no_time done among x k).1 g)
 
   -- so a task doesn't pass exactly where its line says that a job is late, or that none can be named
-  pub missed-line : (taskPasses y (assigned (t .records)) i ≡ false) ↔ ((line ≡ Unknown) ⊎ ((k : ℕ) × (by : ℕ) × (line ≡ Late k by)))
-  unfolding taskPasses withJob within
-  missed-line = (λ e. ⊎-elim (late e) (λ b. inl (line-beyond b)) either, missed)
+  pub missed_line : (task_passes y (assigned t.records) i ≡ false) ↔ ((line ≡ Unknown) ⊎ ((k : ℕ) × (by : ℕ) × (line ≡ Late k by)))
+  unfolding task_passes with_job within
+  missed_line = (λ e. ⊎_elim (late e) (λ b. inl (line_beyond b)) either, missed)
     where
-      late : within (response y s i) (y .d i) ≡ false → (x : ℕ) × (k : ℕ) × Largest y s i x k → (line ≡ Unknown) ⊎ ((k : ℕ) × (by : ℕ) × (line ≡ Late k by))
+      late : within (response y s i) (y.d i) ≡ false → (x : ℕ) × (k : ℕ) × Largest y s i x k → (line ≡ Unknown) ⊎ ((k : ℕ) × (by : ℕ) × (line ≡ Late k by))
       late e g =
-          let h = leb-false (g .0) (y .d i) (ap (λ r. within r (y .d i)) (sym (time-at (g .0) (g .1) (g .2))) ∙ e) in
-          inr (g .1, g .0 - y .d i, line-there (g .0) (g .1) (g .2) ∙ sym (worst-late (At (g .0)) _ (g .1) (y .d i) refl h))
+          let h = leb-false g.0 (y.d i) (ap (λ r. within r (y.d i)) (sym (time-at g.0 g.1 g.2)) ∙ e) in
+          inr (g.1, g.0 - y.d i, line_there g.0 g.1 g.2 ∙ sym (worst_late (At g.0) _ g.1 (y.d i) refl h))
 
-      missed : (line ≡ Unknown) ⊎ ((k : ℕ) × (by : ℕ) × (line ≡ Late k by)) → within (response y s i) (y .d i) ≡ false
-      missed (inl e) = ap (λ r. within r (y .d i)) (unknown-line .0 e)
+      missed : (line ≡ Unknown) ⊎ ((k : ℕ) × (by : ℕ) × (line ≡ Late k by)) → within (response y s i) (y.d i) ≡ false
+      missed (inl e) = ap (λ r. within r (y.d i)) (unknown_line.0 e)
       missed (inr v) =
-          let g = late-line (v .0) (v .1) .0 (v .2) in
-          ap (λ r. within r (y .d i)) (time-at _ (v .0) (g .1)) ∙ lt-leb _ (y .d i) (omega (arith, g .0))
+          let g = (late_line v.0 v.1).0 v.2 in
+          ap (λ r. within r (y.d i)) (time-at _ v.0 g.1) ∙ lt-leb _ (y.d i) (omega (arith, g.0))

@@ -1,14 +1,15 @@
 // What is said of the worst job of a task's active period. specs/WorstJobs.antt says what it is by the calls' answers.
-ghost use Prim.Native.Nat.{_<_};
-ghost use mathlib.Core.Path.{_≡_};
-ghost use Rattle·paper.specs.Numbers.{mostTasks};
-ghost use Rattle·worst_jobs·specs.specs.WorstJobs.{worstBy, worstAt};
-use paper::Outcome;
-use paper::Response;
-use paper::Time;
+#![tactic(auto)]
+
+ghost use Rattle.std.specs.Prelude.{◌<◌, ◌≡◌};
+ghost use Rattle.paper.specs.Numbers.{most_tasks};
+ghost use Rattle.worst_jobs.specs.WorstJobs.{worst_by, worst_at};
+
+use paper::{Outcome, Response, Time};
 use show_facts::Facts;
 
 // What is said of the worst job of a task's active period. The jobs in it count from 0.
+#[derive(Clone, Copy)]
 pub enum Worst {
     // Job 0 is the worst, and in time; or the response times were refused.
     Nothing,
@@ -21,7 +22,7 @@ pub enum Worst {
 }
 
 fn worst_by(response: Response, deadline: u64) -> Worst
-    ensures { λ r. ⌜ r ≡ worstBy (response .time) (response .job) deadline ⌝ }
+    ensures { result ≡ worst_by response.time response.job deadline }
 {
     let job = response.job;
     let time = response.time;
@@ -41,8 +42,8 @@ fn worst_by(response: Response, deadline: u64) -> Worst
 }
 
 pub fn worst_at(f: Facts, k: usize) -> Worst
-    requires { ⌜ k < mostTasks ⌝ }
-    ensures { λ r. ⌜ r ≡ worstAt f k ⌝ }
+    requires { k < most_tasks }
+    ensures { result ≡ worst_at f k }
 {
     let times = f.times;
     let outcome = times.outcome;

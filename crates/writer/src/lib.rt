@@ -1,21 +1,17 @@
 // Writing a cabinet file.
-ghost use mathlib.Core.Path.{_≡_};
-ghost use Prim.Native.Nat.{_<_, _≤_};
-ghost use lib.ListN.{length};
-ghost use Rattle·paper.specs.Numbers.{mostTasks, mostWords};
-ghost use Rattle·paper.specs.File.{fileLength, fileOf};
-ghost use Rattle·paper.specs.Answers.{writeOutcome, writeAnswer, writeOut};
-use paper::Cabinet;
-use paper::Line;
-use paper::Outcome;
-use paper::Refusal;
-use paper::Table;
-use paper::WriteAnswer;
+#![tactic(auto)]
+
+ghost use Rattle.std.specs.Prelude.{◌≡◌, ◌<◌, ◌≤◌, length};
+ghost use Rattle.paper.specs.Numbers.{most_tasks, most_words};
+ghost use Rattle.paper.specs.File.{file_length, file_of};
+ghost use Rattle.paper.specs.Answers.{write_outcome, write_answer, write_out};
+
+use paper::{Cabinet, Line, Outcome, Refusal, Table, WriteAnswer};
 
 // Makes s, which has the file's length, the file.
 fn put_file(s: &mut [u8], edition: u8, t: Table, cabinet: Cabinet, line: Line, own: &[u32])
-    requires { ⌜ (t .n ≤ mostTasks) × (length (now own) ≤ mostWords) × (length (now s) ≡ fileLength edition (t .n) (length (now own))) ⌝ }
-    ensures { λ _. ⌜ now (s .exit) ≡ fileOf edition t (cabinet .0) (line .0) (now (own .entry)) ⌝ }
+    requires { (t.n ≤ most_tasks) × (length own.now ≤ most_words) × (length s.old ≡ file_length edition t.n (length own.now)) }
+    ensures { s.new ≡ file_of edition t cabinet.0 line.0 own.now }
 {
     let n = t.n;
     let rs = t.records;
@@ -37,7 +33,7 @@ fn outcome_of(
     catalogue: &[u32],
     room: usize,
 ) -> Outcome
-    ensures { λ x. ⌜ x ≡ writeOutcome edition t (cabinet .0) (line .0) (now (own .entry)) (now (catalogue .entry)) room ⌝ }
+    ensures { result ≡ write_outcome edition t cabinet.0 line.0 own.now catalogue.now room }
 {
     if !layout::is_edition(edition) {
         return Outcome::Refused(Refusal::WrongEdition);
@@ -82,8 +78,8 @@ pub fn write(
     catalogue: &[u32],
     out: &mut [u8],
 ) -> WriteAnswer
-    ensures { λ r. ⌜ r ≡ writeAnswer edition t (cabinet .0) (line .0) (now (own .entry)) (now (catalogue .entry)) (now (out .entry)) ⌝ }
-    ensures { λ _. ⌜ now (out .exit) ≡ writeOut edition t (cabinet .0) (line .0) (now (own .entry)) (now (catalogue .entry)) (now (out .entry)) ⌝ }
+    ensures value { result ≡ write_answer edition t cabinet.0 line.0 own.now catalogue.now out.old }
+    ensures out_after { out.new ≡ write_out edition t cabinet.0 line.0 own.now catalogue.now out.old }
 {
     let room = out.len();
     let outcome = outcome_of(edition, t, cabinet, line, own, catalogue, room);

@@ -1,24 +1,25 @@
 -- `parts::regions` meets its contract: it is a call as `Handed` has it, of `regions_outcome` and `regions_for`.
 use mathlib.Core.Path.{refl}
-use mir.Syntax.{w64}
+use mir.Syntax.{w32, w64}
 use base.Logic.{id⊢}
 use denote.Builtin.{u32}
-use Rattle·handed.proofs.Data.{number, slice}
-use Rattle·handed.proofs.Handed.{hands}
-use Rattle·paper_data.proofs.Structs.{outcome, table, words-part}
-use Rattle·parts·proofs.proofs.regions_outcome.Symbol as told
-use Rattle·parts·proofs.proofs.regions_outcome.Met as told-thm
-use Rattle·parts·proofs.proofs.regions_for.Symbol as cut
-use Rattle·parts·proofs.proofs.regions_for.Met as cut-thm
-use Rattle·parts·proofs.proofs.regions.Key as key
-use Rattle·parts·proofs.proofs.regions as call
-use Rattle·parts·proofs.proofs.regions.Statement as stated
-use Rattle·parts·proofs.proofs.regions.Code as code
+use denote.Plain.{uint_row_laws}
+use Rattle.handed.proofs.Data.{number, slice}
+use Rattle.handed.proofs.Handed.{hands}
+use Rattle.paper_data.proofs.Structs.{outcome, table, words_part}
+use Rattle.parts.proofs.regions_outcome.Symbol as told
+use Rattle.parts.proofs.regions_outcome.Met as told-thm
+use Rattle.parts.proofs.regions_for.Symbol as cut
+use Rattle.parts.proofs.regions_for.Met as cut-thm
+use Rattle.parts.specs.contracts.regions.Key as key
+use Rattle.parts.specs.contracts.regions as call
+use Rattle.parts.proofs.regions.Statement as stated
+use Rattle.parts.proofs.regions.Code as code
 
-pub regions-spec : {M : Type 1} → stated.statement M
-unfolding code.routine
-regions-spec 𝓤 H 𝓜 𝓖 𝓡 =
-    hands 𝓤 H 𝓜 𝓖 𝓡 0 tt outcome words-part _ (call.signature .params) (λ κs. (table, (slice _ _ u32, (slice _ _ u32, (number w64, tt))))) _ _
-    (call.clauses 𝓤 H (𝓖 .A) (𝓜 .mem) (𝓡 .run)) code.env key.name code.function (code.unfolded 𝓤 H 𝓜 𝓡)
-    told.name told.routine code.calls-parts·regions-outcome (told-thm.met 𝓤 H 𝓜 𝓖 𝓡) cut.name cut.routine code.calls-parts·regions-for (cut-thm.met 𝓤 H 𝓜 𝓖 𝓡)
+pub regions_spec : {M : Type 1} → stated.statement M
+regions_spec 𝓤 𝓛 𝓜 𝓡 wired =
+    hands 𝓛 𝓜 𝓡 0 tt outcome words_part _ (call.signature).params (λ κs. (table, (slice _ _ u32 (uint_row_laws w32), (slice _ _ u32 (uint_row_laws w32), (number w64, tt))))) _ _
+    (call.clauses 𝓛 𝓜.mem 𝓡.returns) 𝓡.env key.name code.function (code.unfolded 𝓤 𝓛.H 𝓜 𝓡 wired)
+    told.name (𝓡.env told.name) refl (told-thm.met 𝓤 𝓛 𝓜 𝓡 (code.calls-parts::regions_outcome 𝓡.env wired))
+    cut.name (𝓡.env cut.name) refl (cut-thm.met 𝓤 𝓛 𝓜 𝓡 (code.calls-parts::regions_for 𝓡.env wired))
     (λ κs a h e o b. id⊢ 𝓤 _) (λ κs. refl)

@@ -1,0 +1,17 @@
+use mathlib.Core.Path.{refl}
+use Rattle.paper.specs.Vocabulary.{every}
+use Rattle.paper.specs.Numbers.{thresholds_hold}
+use Rattle.laws.proofs.Every.{at_end, every_turn}
+use native.Mathlib.Omega.{arith}
+use Rattle.checks.proofs.thresholds_hold.Goals as goal
+
+pub loop-k-init : goal.loop-k-init
+unfolding every
+loop-k-init c = (omega arith, refl)
+
+pub loop-k-preserved : goal.loop-k-preserved
+loop-k-preserved c = (omega arith, every_turn _ _ c.loop-k.invariant.1 refl)
+
+pub returns : goal.returns
+unfolding thresholds_hold
+returns c = at_end every _ _ c.loop-k.invariant.1 (omega arith)

@@ -1,0 +1,16 @@
+-- The invariant: ok says whether the regions of the first k records fit.
+use Rattle.std.proofs.Common.{◌≡◌, ◌≤◌, ◌-◌}
+use lib.IntN.{pos}
+use lib.ListN.{get_or}
+use Rattle.paper.specs.Vocabulary.{every}
+use Rattle.paper.specs.Numbers.{rec}
+use Rattle.paper.specs.Regions.{list_of}
+use Rattle.paper.specs.Lengths.{regions_fit}
+use Rattle.fits.proofs.all_fit.Given as goal
+
+abbrev pub invariant-loop-k : goal.invariant-loop-k
+invariant-loop-k l =
+    (l.k ≤ l.fn.n) × (l.ok ≡ every l.k (λ k. regions_fit (list_of (rec l.fn.rs k).source l.fn.own l.fn.catalogue) (rec l.fn.rs k) (get_or l.fn.lengths k (pos 0))))
+
+abbrev pub decreases-loop-k : goal.decreases-loop-k
+decreases-loop-k l = l.fn.n - l.k

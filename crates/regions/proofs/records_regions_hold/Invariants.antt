@@ -1,0 +1,12 @@
+-- The invariant: ok says whether the regions of the first k records hold.
+use Rattle.std.proofs.Common.{◌≡◌, ◌≤◌, ◌-◌}
+use Rattle.paper.specs.Numbers.{rec}
+use Rattle.paper.specs.Regions.{record_regions_hold}
+use Rattle.paper.specs.Vocabulary.{every}
+use Rattle.regions.proofs.records_regions_hold.Given as goal
+
+abbrev pub invariant-loop-k : goal.invariant-loop-k
+invariant-loop-k l = (l.k ≤ l.fn.n) × (l.ok ≡ every l.k (λ j. record_regions_hold l.fn.own l.fn.catalogue (rec l.fn.rs j)))
+
+abbrev pub decreases-loop-k : goal.decreases-loop-k
+decreases-loop-k l = l.fn.n - l.k
