@@ -1,4 +1,5 @@
 -- Reading a file: what is known of a file that was read, and that nothing else keeps a file from being read.
+use Rattle.std.specs.Prelude.{Ok}
 use Prim.{tt}
 use mathlib.Core.Path.{◌≡◌, ap}
 use mathlib.Core.Bool.{true, false, not}
@@ -12,7 +13,6 @@ use Rattle.paper.specs.File.{is_edition, edition_in, cabinet_in, line_in, tasks_
 use Rattle.paper.specs.Regions.{all_regions_hold}
 use Rattle.paper.specs.Refusals.{blank, read_asks}
 use Rattle.paper.specs.Answers.{read_outcome}
-use Rattle.paper.specs.declared.Outcome.TheVariants.{Done}
 use Rattle.paper.proofs.Tests.{both, neither, ◌and◌, within}
 use Rattle.paper.proofs.Asks.{done_none, none_done}
 use Rattle.paper.proofs.Plates.{plate_says}
@@ -38,7 +38,7 @@ pub record Loaded (f : List ℕ) (cabinet line : ℕ) (catalogue : List ℕ) (ro
 
 module _ (f : List ℕ) (cabinet line : ℕ) (catalogue : List ℕ) (room : ℕ) where
   -- What was read is as it should be.
-  pub read_says : read_outcome f cabinet line catalogue room ≡ Done → Loaded f cabinet line catalogue room
+  pub read_says : read_outcome f cabinet line catalogue room ≡ Ok tt → Loaded f cabinet line catalogue room
   read_says e =
       let a1 = done_none (read_asks f cabinet line catalogue room) e in
       let a2 = a1.1 in
@@ -74,7 +74,7 @@ module _ (f : List ℕ) (cabinet line : ℕ) (catalogue : List ℕ) (room : ℕ)
       }
 
   -- And a file that is as it should be is read.
-  pub read_done : Loaded f cabinet line catalogue room → read_outcome f cabinet line catalogue room ≡ Done
+  pub read_done : Loaded f cabinet line catalogue room → read_outcome f cabinet line catalogue room ≡ Ok tt
   read_done l =
       none_done (read_asks f cabinet line catalogue room)
       (le-ltb (length f) shortest l.long
@@ -93,11 +93,11 @@ module _ (f : List ℕ) (cabinet line : ℕ) (catalogue : List ℕ) (room : ℕ)
       and tt)
 
   -- One cabinet, one file: a file whose cabinet or line is not the one on the plate is never loaded.
-  pub one_cabinet : read_outcome f cabinet line catalogue room ≡ Done → (cabinet_in f ≡ cabinet) × (line_in f ≡ line)
+  pub one_cabinet : read_outcome f cabinet line catalogue room ≡ Ok tt → (cabinet_in f ≡ cabinet) × (line_in f ≡ line)
   one_cabinet e = let l = read_says e in (l.cabinets, l.lines)
 
   -- No file is loaded for cabinet 0 or line 0, and none that says either.
-  pub not_blank : read_outcome f cabinet line catalogue room ≡ Done → ((1 ≤ cabinet) × (1 ≤ line)) × ((1 ≤ cabinet_in f) × (1 ≤ line_in f))
+  pub not_blank : read_outcome f cabinet line catalogue room ≡ Ok tt → ((1 ≤ cabinet) × (1 ≤ line)) × ((1 ≤ cabinet_in f) × (1 ≤ line_in f))
   not_blank e =
       let l = read_says e in
       let p = plate_says cabinet line l.plated in
