@@ -3,126 +3,123 @@
 // standard error and stops.
 #![tactic(auto)]
 
-ghost use Rattle.std.specs.Prelude.{◌≤◌, length};
+use intake::Unread;
+use request::{Body, LONGEST_BODY};
+use std::fmt::Write;
+use std::io::Read;
+use std::{fmt, io};
+use text::Out;
 
-use request::LONGEST_BODY;
-use std::io::{Error, Read};
+// How much is lent to a call at most.
+const MOST_LENT: usize = 65536;
 
-// A number that no run uses up.
-const MOST_REQUESTS: u64 = 18446744073709551615;
-
-// The line of a bad request, after which the program ends.
-fn bad<R: Print + Eprint>(rt: &R, buf: &mut [u8]) -> bool {
-    let end = say::word(rt, buf, 0, b"bad request\n");
-    text::flush(rt, buf, end);
-    false
+// Why the program ends before its input does.
+#[derive(Drop)]
+enum Stop {
+    // Standard input can't be read.
+    Unread(io::Error),
+    BadRequest,
+    // Standard output can't be written, which has been said.
+    Lost,
 }
 
-// Standard input can't be read: said on standard error, after which the program ends.
-fn unread<R: Eprint>(rt: &R, error: Error) -> bool {
-    text::fail(rt, "standard input", error);
-    false
-}
-
-// The answer to a request that is whole.
-fn answer<R: Print + Eprint>(
-    rt: &R,
-    buf: &mut [u8],
-    kind: u8,
-    body: &[u8],
-    words: &mut [u32],
-    bytes: &mut [u8],
-) -> usize
-    ensures { result ≤ length buf.old }
-{
-    match kind {
-        1 => ask_files::read(rt, buf, body, words),
-        2 => ask_files::write(rt, buf, body, bytes),
-        3 => ask_times::response_times(rt, buf, body),
-        4 => ask_times::tolerances(rt, buf, body),
-        5 => ask_times::lengths(rt, buf, body),
-        6 => ask_times::region_check(rt, buf, body),
-        7 => ask_rows::first(rt, buf, body, bytes),
-        8 => ask_rows::next(rt, buf, body, bytes),
-        9 => ask_parts::record(rt, buf, body),
-        10 => ask_parts::regions(rt, buf, body),
-        11 => ask_parts::name(rt, buf, body),
-        12 => ask_parts::last(rt, buf, body),
-        13 => ask_points::points(rt, buf, body),
-        _ => ask_files::write_edition(rt, buf, body, bytes),
+impl From<Unread> for Stop {
+    fn from(unread: Unread) -> Self {
+        Stop::Unread(unread.error)
     }
 }
 
-// Reads a body of the length that is lent, and answers the request. Says whether to go on.
-fn respond<R: Print + Eprint, I: Read>(
-    rt: &R,
-    input: &mut I,
-    buf: &mut [u8],
-    kind: u8,
-    body: &mut [u8],
-    words: &mut [u32],
-    bytes: &mut [u8],
-) -> bool {
-    let got = intake::read_whole(input, body);
-    if let Some(error) = got.failed {
-        return unread(rt, error);
-    }
-    if got.bytes < body.len() {
-        return bad(rt, buf);
-    }
-    if !request::is_whole(kind, body) {
-        return bad(rt, buf);
-    }
-    let said = answer(rt, buf, kind, body, words, bytes);
-    let end = say::newline(rt, buf, said);
-    let start = text::flush(rt, buf, end);
-    !text::lost(buf, start)
-}
-
-fn respond_next<R: Print + Eprint, I: Read>(
-    rt: &R,
-    input: &mut I,
-    buf: &mut [u8],
-    words: &mut [u32],
-    bytes: &mut [u8],
-) -> bool {
-    let mut head = [0u8; 3];
-    let got = intake::read_whole(input, &mut head);
-    if let Some(error) = got.failed {
-        return unread(rt, error);
-    }
-    if got.bytes == 0 {
-        return false;
-    }
-    if got.bytes < 3 {
-        return bad(rt, buf);
-    }
-    let length = request::two_at(&head, 1);
-    if request::longest_body(head[0]) < length {
-        return bad(rt, buf);
-    }
-    let mut body = [0u8; LONGEST_BODY];
-    let used = fronts::of_bytes(&body, length);
-    respond(rt, input, buf, head[0], &mut body[..used], words, bytes)
-}
-
-fn respond_all<R: Print + Eprint, I: Read>(
-    rt: &R,
-    input: &mut I,
-    buf: &mut [u8],
-    words: &mut [u32],
-    bytes: &mut [u8],
-) {
-    let mut turns = MOST_REQUESTS;
-    while turns > 0 && respond_next(rt, input, buf, words, bytes) {
-        turns -= 1;
+impl From<fmt::Error> for Stop {
+    fn from(_error: fmt::Error) -> Self {
+        Stop::Lost
     }
 }
 
-// What is lent to a call is a front of `words` or of `bytes`, as long as the request says.
+// Where requests come from and where answers go. What is lent to a call is a front of `words` or of `bytes`, as long as the request
+// says.
+#[derive(Drop)]
+struct Session<'a, R, I> {
+    input: I,
+    out: Out<'a, R>,
+    words: [u32; MOST_LENT],
+    bytes: [u8; MOST_LENT],
+}
+
+impl<'a, R: Print + Eprint, I: Read> Session<'a, R, I> {
+    fn respond_all(&mut self) -> Result<(), Stop> {
+        // A number of requests that no run uses up.
+        for _ in 0..u64::MAX {
+            if !self.respond_next()? {
+                break;
+            }
+        }
+        Ok(())
+    }
+
+    // Says whether there was a request.
+    fn respond_next(&mut self) -> Result<bool, Stop> {
+        let mut head = [0u8; 3];
+        let got = intake::read_whole(&mut self.input, &mut head)?;
+        if got == 0 {
+            return Ok(false);
+        }
+        let [kind, high, low] = head;
+        let length = u16::from_be_bytes([high, low]) as usize;
+        if got < head.len() || request::longest_body(kind) < length {
+            return Err(Stop::BadRequest);
+        }
+        let mut body = [0u8; LONGEST_BODY];
+        self.respond(kind, &mut body[..length])?;
+        Ok(true)
+    }
+
+    // Reads a body of the length that is lent, and answers the request.
+    fn respond(&mut self, kind: u8, body: &mut [u8]) -> Result<(), Stop> {
+        let got = intake::read_whole(&mut self.input, body)?;
+        if got < body.len() || !request::is_whole(kind, body) {
+            return Err(Stop::BadRequest);
+        }
+        self.answer(kind, Body::new(body))?;
+        writeln!(self.out)?;
+        self.out.flush()?;
+        Ok(())
+    }
+
+    // The answer to a request that is whole, by its kind as the protocol numbers it.
+    fn answer(&mut self, kind: u8, body: Body<'_>) -> fmt::Result {
+        let out = &mut self.out;
+        match kind {
+            1 => ask_files::read(out, body, &mut self.words),
+            2 => ask_files::write(out, body, &mut self.bytes),
+            3 => ask_times::response_times(out, body),
+            4 => ask_times::tolerances(out, body),
+            5 => ask_times::lengths(out, body),
+            6 => ask_times::region_check(out, body),
+            7 => ask_rows::first(out, body, &mut self.bytes),
+            8 => ask_rows::next(out, body, &mut self.bytes),
+            9 => ask_parts::record(out, body),
+            10 => ask_parts::regions(out, body),
+            11 => ask_parts::name(out, body),
+            12 => ask_parts::last(out, body),
+            13 => ask_points::points(out, body),
+            _ => ask_files::write_edition(out, body, &mut self.bytes),
+        }
+    }
+}
+
 fn main(rt: HostRuntime) {
-    let mut buf = io::large_buffer();
-    let mut words = [0u32; 65536];
-    let mut bytes = [0u8; 65536];
-    respond_all(&rt, &mut rt.stdin(), &mut buf, &mut words, &mut bytes);
+    let mut session = Session {
+        input: rt.stdin(),
+        out: Out::new(&rt),
+        words: [0; MOST_LENT],
+        bytes: [0; MOST_LENT],
+    };
+    match session.respond_all() {
+        Err(Stop::Unread(error)) => text::fail(&rt, "standard input", error),
+        Err(Stop::BadRequest) => {
+            let _ = writeln!(session.out, "bad request");
+            let _ = session.out.flush();
+        }
+        Err(Stop::Lost) | Ok(()) => {}
+    }
 }

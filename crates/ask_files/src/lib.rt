@@ -1,11 +1,10 @@
 // Kinds 1, 2 and 14: reading and writing a file.
 #![tactic(auto)]
 
-ghost use Rattle.std.specs.Prelude.{◌≤◌, length};
-ghost use Rattle.paper.specs.Numbers.{most_tasks};
-
-use paper::{MOST_TASKS, Outcome, ReadAnswer, Record, Source, Table, WriteAnswer};
-use request::{FILL, FILL_WORD, MOST_BODY_WORDS, TABLE_BYTES};
+use paper::{MOST_TASKS, Record, Source, Table};
+use request::{Body, FILL, FILL_WORD};
+use say::{Hexadecimal, Refused, Spaced};
+use std::fmt;
 
 fn source_bit(source: Source) -> u32 {
     match source {
@@ -14,157 +13,81 @@ fn source_bit(source: Source) -> u32 {
     }
 }
 
-fn put_record<R: Print + Eprint>(rt: &R, buf: &mut [u8], at: usize, r: Record) -> usize
-    requires { at ≤ length buf.old }
-    ensures { result ≤ length buf.old }
-{
-    let source = r.source;
-    let bit = source_bit(source);
-    let numbers = [
+fn numbers_of(r: &Record) -> [u32; 10] {
+    [
         r.cost,
         r.period,
         r.deadline,
         r.priority,
         r.threshold,
-        bit,
+        source_bit(r.source),
         r.first,
         r.count,
         r.name,
         r.jitter,
-    ];
-    say::words(rt, buf, at, &numbers)
+    ]
 }
 
-fn put_records<R: Print + Eprint>(
-    rt: &R,
-    buf: &mut [u8],
-    at: usize,
-    rs: [Record; MOST_TASKS],
-    n: usize,
-) -> usize
-    requires at_in_bounds { at ≤ length buf.old }
-    requires n_le_most_tasks { n ≤ most_tasks }
-    ensures { result ≤ length buf.old }
-{
-    let mut end = at;
-    let mut k: usize = 0;
-    while k < n {
-        let r = rs[k];
-        end = put_record(rt, buf, end, r);
-        k += 1;
+fn put_table<W: fmt::Write>(out: &mut W, t: &Table) -> fmt::Result {
+    write!(out, "table {}", t.n)?;
+    for r in &t.records[..t.n.min(MOST_TASKS)] {
+        write!(out, "{}", Spaced(&numbers_of(r)))?;
     }
-    end
+    Ok(())
 }
 
-fn put_table<R: Print + Eprint>(rt: &R, buf: &mut [u8], t: Table) -> usize
-    ensures { result ≤ length buf.old }
-{
-    let n = t.n;
-    let rs = t.records;
-    let counted = say::count(rt, buf, 0, b"table", n as u64);
-    put_records(rt, buf, counted, rs, fronts::smaller(n, MOST_TASKS))
-}
-
-fn put_read<R: Print + Eprint>(rt: &R, buf: &mut [u8], answer: ReadAnswer) -> usize
-    ensures { result ≤ length buf.old }
-{
-    let outcome = answer.outcome;
-    match outcome {
-        Outcome::Refused(r) => say::refused(rt, buf, 0, r),
-        Outcome::Done => {
-            let said = put_table(rt, buf, answer.table);
-            say::count(rt, buf, said, b" edition", answer.edition as u64)
+pub fn read<W: fmt::Write>(out: &mut W, mut body: Body<'_>, words: &mut [u32]) -> fmt::Result {
+    let plate = body.plate();
+    let room = fronts::fill(words, body.two() as usize, FILL_WORD);
+    let lent = &mut words[..room];
+    let catalogue = body.words();
+    match reader::read(body.piece(), plate, catalogue.as_slice(), lent) {
+        Ok(reading) => {
+            put_table(out, &reading.table)?;
+            write!(out, " edition {}", reading.edition)?;
         }
+        Err(r) => write!(out, "{}", Refused(r))?,
     }
+    write!(out, " out{}", Spaced(lent))
 }
 
-// `out` is all that is lent.
-fn read_into<R: Print + Eprint>(rt: &R, buf: &mut [u8], body: &[u8], out: &mut [u32]) -> usize
-    ensures { result ≤ length buf.old }
-{
-    let cabinet = request::cabinet_at(body, 0);
-    let line = request::line_at(body, 4);
-    let file = request::bytes_at(body, request::words_end(body, 8));
-    let mut catalogue = [0u32; MOST_BODY_WORDS];
-    let m = request::take_words(body, 8, &mut catalogue);
-    let answer = reader::read(file, cabinet, line, &catalogue[..m], out);
-    let said = put_read(rt, buf, answer);
-    say::out_words(rt, buf, said, out)
-}
-
-pub fn read<R: Print + Eprint>(rt: &R, buf: &mut [u8], body: &[u8], words: &mut [u32]) -> usize
-    ensures { result ≤ length buf.old }
-{
-    let room = fronts::fill_words(words, request::two_at(body, 6), FILL_WORD);
-    read_into(rt, buf, body, &mut words[..room])
-}
-
-fn put_written<R: Print + Eprint>(rt: &R, buf: &mut [u8], answer: WriteAnswer) -> usize
-    ensures { result ≤ length buf.old }
-{
-    match answer {
-        WriteAnswer::File(n) => say::count(rt, buf, 0, b"file", n as u64),
-        WriteAnswer::Refused(r) => say::refused(rt, buf, 0, r),
-    }
-}
-
-const OWN: usize = 8 + TABLE_BYTES;
-
-fn write_into<R: Print + Eprint>(
-    rt: &R,
-    buf: &mut [u8],
+fn write_as<W: fmt::Write>(
+    out: &mut W,
     edition: u8,
-    body: &[u8],
-    out: &mut [u8],
-) -> usize
-    ensures { result ≤ length buf.old }
-{
-    let cabinet = request::cabinet_at(body, 0);
-    let line = request::line_at(body, 4);
-    let t = request::table_at(body, 8);
-    let mut own = [0u32; MOST_BODY_WORDS];
-    let m = request::take_words(body, OWN, &mut own);
-    let mut catalogue = [0u32; MOST_BODY_WORDS];
-    let k = request::take_words(body, request::words_end(body, OWN), &mut catalogue);
-    let answer = writer::write(edition, t, cabinet, line, &own[..m], &catalogue[..k], out);
-    let said = put_written(rt, buf, answer);
-    say::out_file(rt, buf, said, out)
-}
-
-fn write_as<R: Print + Eprint>(
-    rt: &R,
-    buf: &mut [u8],
-    edition: u8,
-    body: &[u8],
+    mut body: Body<'_>,
     bytes: &mut [u8],
-) -> usize
-    ensures { result ≤ length buf.old }
-{
-    let room = fronts::fill_bytes(bytes, request::two_at(body, 6), FILL);
-    write_into(rt, buf, edition, body, &mut bytes[..room])
+) -> fmt::Result {
+    let plate = body.plate();
+    let room = fronts::fill(bytes, body.two() as usize, FILL);
+    let lent = &mut bytes[..room];
+    let t = body.table();
+    let own = body.words();
+    let catalogue = body.words();
+    match writer::write(
+        edition,
+        t,
+        plate,
+        own.as_slice(),
+        catalogue.as_slice(),
+        lent,
+    ) {
+        Ok(length) => write!(out, "file {length}")?,
+        Err(r) => write!(out, "{}", Refused(r))?,
+    }
+    write!(out, " out{}", Hexadecimal(lent))
 }
 
 // Kind 2 writes edition 1.
-pub fn write<R: Print + Eprint>(rt: &R, buf: &mut [u8], body: &[u8], bytes: &mut [u8]) -> usize
-    ensures { result ≤ length buf.old }
-{
-    write_as(rt, buf, 1, body, bytes)
+pub fn write<W: fmt::Write>(out: &mut W, body: Body<'_>, bytes: &mut [u8]) -> fmt::Result {
+    write_as(out, 1, body, bytes)
 }
 
 // Kind 14 is told the edition.
-pub fn write_edition<R: Print + Eprint>(
-    rt: &R,
-    buf: &mut [u8],
-    body: &[u8],
+pub fn write_edition<W: fmt::Write>(
+    out: &mut W,
+    mut body: Body<'_>,
     bytes: &mut [u8],
-) -> usize
-    ensures { result ≤ length buf.old }
-{
-    write_as(
-        rt,
-        buf,
-        request::edition_of(body),
-        request::behind_edition(body),
-        bytes,
-    )
+) -> fmt::Result {
+    let edition = body.byte();
+    write_as(out, edition, body, bytes)
 }

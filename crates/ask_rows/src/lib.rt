@@ -1,49 +1,46 @@
 // Kinds 7 and 8: the list of assignments.
 #![tactic(auto)]
 
-ghost use Rattle.std.specs.Prelude.{◌≤◌, length};
+use paper::{Refusal, Step};
+use request::{Body, FILL};
+use say::{Refused, Spaced};
+use std::fmt;
+use std::fmt::Write;
+use text::Out;
 
-use paper::RowAnswer;
-use request::{FILL, TABLE_BYTES};
-
-fn put_answer<R: Print + Eprint>(rt: &R, buf: &mut [u8], answer: RowAnswer) -> usize
-    ensures { result ≤ length buf.old }
-{
+// The answer, and all of the row that was lent.
+fn put_answer<R: Print + Eprint>(
+    out: &mut Out<R>,
+    answer: Result<Step, Refusal>,
+    row: &[u8],
+) -> fmt::Result {
     match answer {
-        RowAnswer::Row => say::word(rt, buf, 0, b"row"),
-        RowAnswer::End => say::word(rt, buf, 0, b"end"),
-        RowAnswer::Refused(r) => say::refused(rt, buf, 0, r),
+        Ok(Step::Row) => write!(out, "row")?,
+        Ok(Step::End) => write!(out, "end")?,
+        Err(r) => write!(out, "{}", Refused(r))?,
     }
+    write!(out, " out{}", Spaced(row))
 }
 
-// `out` is all that is lent.
-fn first_into<R: Print + Eprint>(rt: &R, buf: &mut [u8], body: &[u8], out: &mut [u8]) -> usize
-    ensures { result ≤ length buf.old }
-{
-    let t = request::table_at(body, 2);
-    let said = put_answer(rt, buf, listing::first_row(t, out));
-    say::out_row(rt, buf, said, out)
+pub fn first<R: Print + Eprint>(
+    out: &mut Out<R>,
+    mut body: Body<'_>,
+    bytes: &mut [u8],
+) -> fmt::Result {
+    let room = fronts::fill(bytes, body.two() as usize, FILL);
+    let row = &mut bytes[..room];
+    let answer = listing::first_row(body.table(), row);
+    put_answer(out, answer, row)
 }
 
-pub fn first<R: Print + Eprint>(rt: &R, buf: &mut [u8], body: &[u8], bytes: &mut [u8]) -> usize
-    ensures { result ≤ length buf.old }
-{
-    let room = fronts::fill_bytes(bytes, request::two_at(body, 0), FILL);
-    first_into(rt, buf, body, &mut bytes[..room])
-}
-
-fn next_into<R: Print + Eprint>(rt: &R, buf: &mut [u8], body: &[u8], out: &mut [u8]) -> usize
-    ensures { result ≤ length buf.old }
-{
-    let t = request::table_at(body, 2);
-    let given = request::bytes_at(body, 2 + TABLE_BYTES);
-    let said = put_answer(rt, buf, listing::next_row(t, given, out));
-    say::out_row(rt, buf, said, out)
-}
-
-pub fn next<R: Print + Eprint>(rt: &R, buf: &mut [u8], body: &[u8], bytes: &mut [u8]) -> usize
-    ensures { result ≤ length buf.old }
-{
-    let room = fronts::fill_bytes(bytes, request::two_at(body, 0), FILL);
-    next_into(rt, buf, body, &mut bytes[..room])
+pub fn next<R: Print + Eprint>(
+    out: &mut Out<R>,
+    mut body: Body<'_>,
+    bytes: &mut [u8],
+) -> fmt::Result {
+    let room = fronts::fill(bytes, body.two() as usize, FILL);
+    let row = &mut bytes[..room];
+    let t = body.table();
+    let answer = listing::next_row(t, body.piece(), row);
+    put_answer(out, answer, row)
 }

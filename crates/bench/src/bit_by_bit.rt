@@ -10,21 +10,17 @@ fn seal_bit(c: u16) -> u16 {
 }
 
 fn seal_byte(c: u16, b: u8) -> u16 {
-    let mut x = c ^ ((b as u16) * 256);
-    let mut i: usize = 0;
-    while i < 8 {
+    let mut x = c ^ (b as u16) * 256;
+    for _ in 0..8 {
         x = seal_bit(x);
-        i += 1;
     }
     x
 }
 
 pub fn bench_seal_bits(s: &[u8]) -> u16 {
     let mut c: u16 = 0xffff;
-    let mut i: usize = 0;
-    while i < s.len() {
-        c = seal_byte(c, s[i]);
-        i += 1;
+    for &b in s {
+        c = seal_byte(c, b);
     }
     c
 }

@@ -3,9 +3,10 @@
 // checks on the other side.
 #![tactic(auto)]
 
-ghost use Rattle.columns.specs.Columns.{tasks_by, assigned_by, Ranged, Placed};
+ghost use Rattle.columns.specs.Columns.{assigned_by, Ranged, Placed};
+ghost use Rattle.bench.specs.Columns.{tasks_in_columns};
 
-use columns::{Numbers, Tasks};
+use columns::Numbers;
 
 #[unsafe(no_mangle)]
 pub extern "C" fn bench_read(file: &[u8], cabinet: u32, line: u16, out: &mut [u32]) -> u64 {
@@ -83,8 +84,8 @@ pub extern "C" fn bench_name(name: u32, list: &[u8]) -> usize {
 }
 
 #[unsafe(no_mangle)]
-pub extern "C" fn bench_passes(n: usize, y: &Tasks, p: &Numbers, h: &Numbers) -> bool
-    requires { Ranged (tasks_by n y.now) × Placed n (assigned_by p.now h.now) }
+pub extern "C" fn bench_passes(n: usize, y: &[Numbers; 4], p: &Numbers, h: &Numbers) -> bool
+    requires { Ranged (tasks_in_columns n y.now) × Placed n (assigned_by p.now h.now) }
 {
     bench::bench_passes(n, y, p, h)
 }

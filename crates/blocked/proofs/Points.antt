@@ -1,4 +1,5 @@
 -- What ties fixed preemption points (document 02, item 2) to the floating regions that tolerances are for (source document 000, section VII): of a table that the test answers, alpha is 0 exactly for the lowest task, no difference that the test takes falls below zero, and a task whose tolerance is at least alpha passes.
+use Rattle.std.proofs.Common.{Ok}
 use Prim.Native.Nat.{ℕ, ◌+◌, ◌-◌, ◌≤◌, ◌<◌}
 use mathlib.Core.Path.{◌≡◌, refl, sym, ap, ◌∙◌}
 use mathlib.Core.Bool.{Bool, true, false, cond}
@@ -13,17 +14,16 @@ use lib.IntN.{pos}
 use lib.ListN.{length, get_or}
 use lib.Signed.{◌≤ℤ◌}
 use Rattle.paper.specs.Vocabulary.{every}
-use Rattle.paper.specs.Numbers.{rec, counts_in_range, records_in_range, assigned, unassigned, assignment_holds, Assignment}
+use Rattle.paper.specs.Numbers.{rec, per_task, counts_in_range, records_in_range, assigned, unassigned, assignment_holds, Assignment}
 use Rattle.paper.specs.Regions.{list_of, all_regions_hold}
 use Rattle.paper.specs.Analysis.{Tasks, tasks_of, before, load}
 use Rattle.paper.specs.Lengths.{tolerance, lowest_below_zero}
 use Rattle.paper.specs.Points.{Chunks, chunks_of, alpha, points_pass}
 use Rattle.paper.specs.Refusals.{first_of, fit_asks}
-use Rattle.paper.specs.Answers.{verdict_for, points_answer}
+use Rattle.paper.specs.Answers.{answered as answered_by, verdict_for, points_answer}
 use Rattle.paper.specs.declared.Table.{Table}
-use Rattle.paper.specs.declared.PointVerdict.{PointVerdict}
+use Rattle.paper.specs.declared.Shown.{Shown}
 use Rattle.paper.specs.declared.Shown.TheVariants.{NotShown, Passes}
-use Rattle.paper.specs.declared.Outcome.TheVariants.{Done}
 use Rattle.paper.proofs.Asks.{met, clear}
 use Rattle.paper.proofs.Lengths.{Tolerable, lowest_zero}
 use Rattle.paper.proofs.Points.{Held, all_regions_say, Point, passes_means}
@@ -57,7 +57,7 @@ module _ (y : Tasks) (a : Assignment) (g : Chunks) (i : ℕ) (w : Divided y a g 
           )
 
 -- The same of a table that the test answers.
-module _ (t : Table) (own catalogue : List ℕ) (e : first_of (fit_asks t own catalogue) ≡ Done) where
+module _ (t : Table) (own catalogue : List ℕ) (e : first_of (fit_asks t own catalogue) ≡ Ok tt) where
   abbrev y : Tasks
   y = tasks_of t.records t.n
 
@@ -114,12 +114,15 @@ module _ (t : Table) (own catalogue : List ℕ) (e : first_of (fit_asks t own ca
           omega (arith, part, word, (w.words 0 w.there).0)
 
   -- What the answer means: it says "passes" of a task exactly where alpha is 0 or there is a t.
-  pub answered_means : (i : ℕ) → i < t.n
-      → ((get_or (points_answer t own catalogue).tasks i (verdict_for false)).verdict ≡ Passes) ↔ ((alpha y a g i ≡ 0) ⊎ ((u : ℕ) × Point y a i (g.last i) (alpha y a g i) u))
-  answered_means i l = (λ h. (passes_means y a g i).0 (shown (points_pass y a g i) (sym said ∙ h)), λ w. said ∙ rw ((passes_means y a g i).1 w))
+  pub answered_means : {tasks : List Shown} → points_answer t own catalogue ≡ Ok tasks → (i : ℕ) → i < t.n
+      → (get_or tasks i NotShown ≡ Passes) ↔ ((alpha y a g i ≡ 0) ⊎ ((u : ℕ) × Point y a i (g.last i) (alpha y a g i) u))
+  answered_means {tasks} o i l = (λ h. (passes_means y a g i).0 (shown (points_pass y a g i) (sym said ∙ h)), λ w. said ∙ rw ((passes_means y a g i).1 w))
     where
-      said : (get_or (points_answer t own catalogue).tasks i (verdict_for false)).verdict ≡ cond (points_pass y a g i) Passes NotShown
-      said = rw e (ap (λ (v : PointVerdict). v.verdict) (per_task_at t.n (λ k. verdict_for (points_pass y a g k)) (verdict_for false) (verdict_for false) i l))
+      whole : tasks ≡ per_task t.n (λ k. verdict_for (points_pass y a g k)) NotShown
+      whole = let q = sym o ∙ ap (λ v. answered_by v (per_task t.n (λ k. verdict_for (points_pass y a g k)) NotShown)) e in cc
+
+      said : get_or tasks i NotShown ≡ cond (points_pass y a g i) Passes NotShown
+      said = ap (λ vs. get_or vs i NotShown) whole ∙ per_task_at t.n (λ k. verdict_for (points_pass y a g k)) NotShown NotShown i l
 
       shown : (b : Bool) → cond b Passes NotShown ≡ Passes → b ≡ true
       shown true h = refl

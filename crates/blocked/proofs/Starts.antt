@@ -1,4 +1,5 @@
 -- An arrival at a start is not lost, blocked or not: no job starts on a tick on which a task above arrives.
+use Rattle.std.proofs.Common.{Some}
 use Prim.Native.Nat.{ℕ, zero, suc, ◌+◌, ◌-◌, ◌≤◌, ◌<◌, zero-le}
 use mathlib.Core.Path.{◌≡◌, ap}
 use mathlib.Core.Bool.{true}
@@ -8,7 +9,6 @@ use native.Mathlib.Nat.{eq-or-lt_of_le, mul-pos}
 use borrow.Author.Tests.{eqb-true}
 use Rattle.paper.specs.Numbers.{horizon}
 use Rattle.paper.specs.Analysis.{Tasks, Standing, before, by, start_sum, start_of}
-use Rattle.paper.specs.declared.Time.TheVariants.{At}
 use Rattle.paper.proofs.Searched.{searched}
 use Rattle.laws.proofs.Arrivals.{by_is, load_part, load_less}
 use Rattle.laws.proofs.Least.{fixed, least_under}
@@ -38,7 +38,7 @@ module _ (y : Tasks) (s : Standing) (i k : ℕ) (j : ℕ) (l : j < y.n) (cost : 
       )
 
   -- as many jobs of j have been asked for before S as by S
-  pub nothing_lost : (v : ℕ) → start_of y s i k ≡ At v → before y v j ≡ by y v j
+  pub nothing_lost : (v : ℕ) → start_of y s i k ≡ Some v → before y v j ≡ by y v j
   unfolding start_of
   nothing_lost v e =
       let f = start_sum y s i k in

@@ -1,4 +1,5 @@
 -- What a tolerance is for: where D(i) ≤ T(i) and its jitter leaves a t, a task that every higher one may cut passes exactly when it is blocked for no longer than its tolerance.
+use Rattle.std.proofs.Common.{Option, Some, None}
 use Prim.Native.Nat.{ℕ, ◌+◌, ◌-◌, ◌*◌, ◌/◌, ◌≤◌, ◌<◌, zero-le}
 use mathlib.Core.Path.{◌≡◌, refl, sym, ap, subst}
 use mathlib.Core.Bool.{Bool, true, false, cond}
@@ -12,8 +13,6 @@ use lib.Signed.{◌≤ℤ◌}
 use Rattle.paper.specs.Numbers.{horizon, Assignment}
 use Rattle.paper.specs.Analysis.{Tasks, before, by, load, blocks, blocking, standing, level_sum, level_of, start_sum, start_of, finish_sum, finish_of, finish_from, job, with_job, task_passes}
 use Rattle.paper.specs.Lengths.{slack, tolerance, no_instant, allowed, length_of}
-use Rattle.paper.specs.declared.Time.{Time}
-use Rattle.paper.specs.declared.Time.TheVariants.{At, Beyond}
 use Rattle.paper.proofs.Signed.{≤ℤ-trans, pos_le, le_pos}
 use Rattle.paper.proofs.Tests.{both}
 use Rattle.paper.proofs.Searched.{searched}
@@ -116,8 +115,8 @@ module _ (y : Tasks) (a : Assignment) (i : ℕ) (w : Cut y a i) where
   unfolding job finish_from start_of finish_of
   in-time o = go (start_of y (standing y a i) i 0) refl o.finish
     where
-      go : (start : Time) → start_of y (standing y a i) i 0 ≡ start → finish_from y (standing y a i) i start ≡ At o.f → pos b ≤ℤ tolerance y a i
-      go (At v) ev ef =
+      go : (start : Option ℕ) → start_of y (standing y a i) i 0 ≡ start → finish_from y (standing y a i) i start ≡ Some o.f → pos b ≤ℤ tolerance y a i
+      go (Some v) ev ef =
           let sum = start_sum y (standing y a i) i 0 in
           let at : v ≡ sum v = eqb-true v (sum v) (searched (fixed sum) 0 (horizon + 1) v ev).hit in
           let end = finish_sum y (standing y a i) i v in
@@ -127,7 +126,7 @@ module _ (y : Tasks) (a : Assignment) (i : ℕ) (w : Cut y a i) where
           ≤ℤ-trans
           ((need_slack o.f).1 (omega arith))
           (tolerance_bounds y a i o.f (record { low = omega (arith, f.low); high = omega (arith, o.ok, zero-mul (y.t i)) }))
-      go Beyond ev ef = let z : ◌≡◌ {A = ℕ} 0 1 = cc in absurd (omega arith)
+      go None ev ef = let z : ◌≡◌ {A = ℕ} 0 1 = cc in absurd (omega arith)
 
   -- and where it has all that it needs by u + 1, L and the S and F of its one job are there by then
   module _ (u : ℕ) (fits : need (u + 1) ≤ u + 1) (early : u + 1 + y.j i ≤ y.d i) where
@@ -147,7 +146,7 @@ module _ (y : Tasks) (a : Assignment) (i : ℕ) (w : Cut y a i) where
         (omega (arith, begins.high, w.near))
         (omega (arith, needs (u + 1) (omega (arith, begins.high))))
 
-    first_ends : job y (standing y a i) i 0 ≡ At ends.z
+    first_ends : job y (standing y a i) i 0 ≡ Some ends.z
     unfolding job finish_from start_of finish_of
     first_ends = rw begins.is ends.is
 

@@ -1,23 +1,21 @@
 // What the test of fixed preemption points looks at of a task's regions: the longest and the last.
 
-#![tactic(auto)]
+#![tactic(auto, using(laws::proofs::Turns::largest, laws::proofs::Sums::max_none))]
 
 ghost use Rattle.std.specs.Prelude.{◌≡◌, ◌+◌, ◌<◌, ◌^◌, get_or};
 ghost use Rattle.paper.specs.Vocabulary.{max_to};
 ghost use Rattle.paper.specs.Points.{longest_region, last_region};
 
-use paper::{Record, Source};
+use paper::Record;
 
-// The longest of `count` words from `first`.
+// The longest of `count` words from `first`. A word past the list's end counts as 0, so that no slice of the list will do.
 fn longest(list: &[u32], first: usize, count: usize) -> u64
     requires { first + count < 2 ^ 33 }
     ensures { result ≡ max_to count (λ i. get_or list.now (first + i) 0) }
 {
     let mut most: u64 = 0;
-    let mut i: usize = 0;
-    while i < count {
-        most = jobs::larger(most, regions::word(list, first + i) as u64);
-        i += 1;
+    for i in 0..count {
+        most = most.max(u64::from(regions::word(list, first + i)));
     }
     most
 }
@@ -25,24 +23,15 @@ fn longest(list: &[u32], first: usize, count: usize) -> u64
 pub fn longest_region(r: Record, own: &[u32], catalogue: &[u32]) -> u64
     ensures { result ≡ longest_region own.now catalogue.now r }
 {
-    let source = r.source;
-    let first = r.first as usize;
-    let count = r.count as usize;
-    match source {
-        Source::Own => longest(own, first, count),
-        Source::Catalogue => longest(catalogue, first, count),
-    }
+    let list = fits::list_of(r.source, own, catalogue);
+    longest(list, r.first as usize, r.count as usize)
 }
 
 pub fn last_region(r: Record, own: &[u32], catalogue: &[u32]) -> u64
     ensures { result ≡ last_region own.now catalogue.now r }
 {
-    let source = r.source;
-    let count = r.count as u64;
-    let end = r.first as u64 + count;
-    let at = jobs::less(end, 1) as usize;
-    match source {
-        Source::Own => regions::word(own, at) as u64,
-        Source::Catalogue => regions::word(catalogue, at) as u64,
-    }
+    let list = fits::list_of(r.source, own, catalogue);
+    let count = r.count as usize;
+    let end = r.first as usize + count;
+    u64::from(regions::word(list, end.saturating_sub(1)))
 }

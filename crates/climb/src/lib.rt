@@ -5,14 +5,15 @@
 ghost use Rattle.std.specs.Prelude.{◌≡◌, cond, ◌+◌, ◌*◌, ◌≤◌, ◌<◌, ltb};
 ghost use Rattle.paper.specs.Vocabulary.{ceil_div};
 ghost use Rattle.paper.specs.Numbers.{most_ticks, horizon};
-ghost use Rattle.columns.specs.Columns.{tasks_by, ranked_by, Ranged};
+ghost use Rattle.columns.specs.Columns.{ranked_by};
+ghost use Rattle.columns.specs.Tasks.{tasks_in};
 ghost use Rattle.climb.specs.Work.{work, side, solution, Rises};
 
 use columns::{Numbers, Tasks};
-use paper::Time;
+use paper::HORIZON;
 
 // x = base + work(limit, x + edge) - off. L, S and F are the least x of such an equation.
-#[derive(Clone, Copy)]
+#[derive(Clone, Copy, Debug, PartialEq, Eq)]
 pub struct Equation {
     pub limit: u64,
     pub base: u64,
@@ -43,46 +44,47 @@ fn part(x: u64, limit: u64, cost: u64, period: u64, jitter: u64, p: u64) -> u64
     }
 }
 
-pub fn work(n: usize, y: &Tasks, p: &Numbers, limit: u64, x: u64) -> u64
-    requires { Ranged (tasks_by n y.now) × (x ≤ horizon + 1) }
-    ensures { result ≡ work (tasks_by n y.now) (ranked_by p.now) limit x }
+#[tactic(auto, using(laws::proofs::Turns::sums), unfolding(paper::specs::Vocabulary::sum_to, crate::specs::Work::work, paper::specs::Analysis::load, paper::specs::Analysis::before))]
+pub fn work(y: &Tasks, p: &Numbers, limit: u64, x: u64) -> u64
+    requires { x ≤ horizon + 1 }
+    ensures { result ≡ work (tasks_in y.now) (ranked_by p.now) limit x }
 {
     let mut total = 0;
-    let mut j = 0;
-    while j < n {
-        let cost = columns::cost(y, j);
-        let period = columns::period(y, j);
-        let jitter = columns::jitter(y, j);
-        total = total + part(x, limit, cost, period, jitter, p[j]);
-        j = j + 1;
+    for j in 0..y.n {
+        let cost = y.cost(j);
+        let period = y.period(j);
+        let jitter = y.jitter(j);
+        total += part(x, limit, cost, period, jitter, p[j]);
     }
     total
 }
 
 // The right side of an equation, at x.
-fn side(n: usize, y: &Tasks, p: &Numbers, e: Equation, x: u64) -> u64
-    requires { Ranged (tasks_by n y.now) × (x ≤ horizon) × Rises (tasks_by n y.now) (ranked_by p.now) e x }
-    ensures { result ≡ side (tasks_by n y.now) (ranked_by p.now) e x }
+fn side(y: &Tasks, p: &Numbers, e: Equation, x: u64) -> u64
+    requires near { x ≤ horizon }
+    requires rises { Rises (tasks_in y.now) (ranked_by p.now) e x }
+    ensures { result ≡ side (tasks_in y.now) (ranked_by p.now) e x }
 {
-    e.base + work(n, y, p, e.limit, x + e.edge) - e.off
+    e.base + work(y, p, e.limit, x + e.edge) - e.off
 }
 
 // The least x from `from` to the horizon that solves the equation.
-pub fn solve(n: usize, y: &Tasks, p: &Numbers, e: Equation, from: u64) -> Time
-    requires { Ranged (tasks_by n y.now) × Rises (tasks_by n y.now) (ranked_by p.now) e from }
-    ensures { result ≡ solution (tasks_by n y.now) (ranked_by p.now) e from }
+pub fn solve(y: &Tasks, p: &Numbers, e: Equation, from: u64) -> Option<u64>
+    requires { Rises (tasks_in y.now) (ranked_by p.now) e from }
+    ensures { result ≡ solution (tasks_in y.now) (ranked_by p.now) e from }
 {
-    if from > paper::HORIZON {
-        return Time::Beyond;
+    if from > HORIZON {
+        return None;
     }
     let mut x = from;
+    // No `for`: where a turn begins is where the sum of the one before it landed.
     loop {
-        let next = side(n, y, p, e, x);
+        let next = side(y, p, e, x);
         if next == x {
-            return Time::At(x);
+            return Some(x);
         }
-        if next > paper::HORIZON {
-            return Time::Beyond;
+        if next > HORIZON {
+            return None;
         }
         x = next;
     }

@@ -1,12 +1,12 @@
 -- A table's tasks and assignment may be read off its columns, and what the checks of a table say of them.
-use Prim.Native.Nat.{ℕ, ◌+◌, ◌*◌, ◌/◌, ◌%◌, ◌≤◌, ◌<◌}
+use Prim.Native.Nat.{ℕ, ◌≤◌, ◌<◌}
 use mathlib.Core.Path.{◌≡◌, refl, sym, ap, ◌∙◌}
 use mathlib.Core.Bool.{Bool, true, false, ◌&&◌, ◌||◌}
 use mathlib.Core.List.{List}
 use mathlib.Core.Logic.{by_cases}
 use native.Mathlib.Omega.{arith}
 use native.Mathlib.Decide.{dec_lt}
-use borrow.Author.Tests.{leb-true, ltb-true, lt-ltb, le-ltb}
+use borrow.Author.Tests.{leb-true, ltb-true}
 use lib.Dec.{leb, ltb}
 use lib.ListN.{length, get_or, get_or-eq_default}
 use Rattle.paper.specs.Numbers.{most_tasks, most_ticks, most_name, zero_record, rec, ticks_in_range, record_in_range, records_in_range, each_once, thresholds_hold, assigned, unassigned, assignment_holds}
@@ -15,22 +15,9 @@ use Rattle.paper.specs.declared.Record.{Record}
 use Rattle.paper.proofs.Tests.{never, both, within, every_says}
 use Rattle.paper.proofs.Formed.{each_once_range, threshold_range}
 use Rattle.laws.proofs.Lists.{list_length, list_at}
-use Rattle.columns.specs.Columns.{value_in, task_columns, column_at, column_of, columns_of, number_at, tasks_by, assigned_by, Ranged, Placed}
+use Rattle.columns.specs.Columns.{value_in, column_of, tasks_by, assigned_by, Ranged, Placed}
 use Rattle.columns.specs.declared.Column.{Column}
 use Rattle.columns.specs.declared.Column.TheVariants.{Cost, Period, Deadline, Priority, Threshold, Jitter}
-
--- a number of a task that there is
-pub number-at : (m : ℕ) (ys : List ℕ) (k place : ℕ) → k < most_tasks → place ≡ m * most_tasks + k → get_or ys place 0 ≡ number_at m ys k
-unfolding number_at
-number-at m ys k place h e = rw (lt-ltb k most_tasks h, e)
-
--- the number of task k in column m, at its place among the columns
-pub value_at : (rs : List Record) (m k : ℕ) {which : Column} {v : ℕ} → k < most_tasks → which ≡ column_at m → v ≡ value_in which (rec rs k)
-    → v ≡ value_in (column_at ((m * most_tasks + k) / most_tasks)) (rec rs ((m * most_tasks + k) % most_tasks))
-value_at rs m k l e v =
-    let column : (m * most_tasks + k) / most_tasks ≡ m = omega arith in
-    let task : (m * most_tasks + k) % most_tasks ≡ k = omega arith in
-    rw (column, task, ← e) v
 
 -- past the last record all is 0
 zero_in : (which : Column) → value_in which zero_record ≡ 0
@@ -46,7 +33,7 @@ past rs which e k h =
     let r : length rs ≤ k = rw e h in
     ap (value_in which) (get_or-eq_default rs zero_record r) ∙ zero_in which
 
--- the numbers of a column, and of the tasks' columns, are the records' numbers at every index
+-- the numbers of a column are the records' numbers at every index
 column_all : (rs : List Record) (which : Column) → length rs ≡ most_tasks → (j : ℕ)
     → get_or (column_of rs which) j 0 ≡ value_in which (rec rs j)
 column_all rs which e j =
@@ -56,32 +43,19 @@ column_all rs which e j =
     let m : length (column_of rs which) ≤ j = rw (list_length most_tasks (λ j. value_in which (rec rs j))) (omega arith) in
     get_or-eq_default (column_of rs which) 0 m ∙ sym (past rs which e j (omega arith)))
 
-no_task : (m : ℕ) (ys : List ℕ) (k : ℕ) → most_tasks ≤ k → number_at m ys k ≡ 0
-unfolding number_at
-no_task m ys k h = rw (le-ltb k most_tasks h)
-
-columns_all : (rs : List Record) (m : ℕ) → m < task_columns → length rs ≡ most_tasks → (k : ℕ)
-    → number_at m (columns_of rs) k ≡ value_in (column_at m) (rec rs k)
-columns_all rs m few e k =
-    by_cases (dec_lt k most_tasks)
-    (λ (l : k < most_tasks).
-    let place : m * most_tasks + k < task_columns * most_tasks = omega arith in
-    sym (number-at m (columns_of rs) k _ l refl)
-    ∙ list_at (task_columns * most_tasks) (λ j. value_in (column_at (j / most_tasks)) (rec rs (j % most_tasks))) 0 (m * most_tasks + k) place
-    ∙ sym (value_at rs m k l refl refl))
-    (λ l. no_task m (columns_of rs) k (omega arith) ∙ sym (past rs (column_at m) e k (omega arith)))
-
-pub tasks-by : (rs : List Record) (n : ℕ) → length rs ≡ most_tasks → tasks_by n (columns_of rs) ≡ tasks_of rs n
+pub tasks-by : (rs : List Record) (n : ℕ) → length rs ≡ most_tasks
+    → tasks_by n (column_of rs Cost) (column_of rs Period) (column_of rs Deadline) (column_of rs Jitter) ≡ tasks_of rs n
 tasks-by rs n e i = record {
   n = n;
-  c = λ k. columns_all rs 0 (omega arith) e k i;
-  t = λ k. columns_all rs 1 (omega arith) e k i;
-  d = λ k. columns_all rs 2 (omega arith) e k i;
-  j = λ k. columns_all rs 3 (omega arith) e k i;
+  c = λ k. column_all rs Cost e k i;
+  t = λ k. column_all rs Period e k i;
+  d = λ k. column_all rs Deadline e k i;
+  j = λ k. column_all rs Jitter e k i;
 }
 
-pub ranged_by : (rs : List Record) (n : ℕ) {ys : List ℕ} → ys ≡ columns_of rs → length rs ≡ most_tasks → Ranged (tasks_of rs n) → Ranged (tasks_by n ys)
-ranged_by rs n e size r = rw (e, tasks-by rs n size) r
+pub filled : (rs : List Record) (n : ℕ) {cs ts ds js : List ℕ} → cs ≡ column_of rs Cost → ts ≡ column_of rs Period → ds ≡ column_of rs Deadline
+    → js ≡ column_of rs Jitter → length rs ≡ most_tasks → tasks_by n cs ts ds js ≡ tasks_of rs n
+filled rs n c t d j e = rw (c, t, d, j) (tasks-by rs n e)
 
 pub assigned-by : (rs : List Record) → length rs ≡ most_tasks
     → assigned_by (column_of rs Priority) (column_of rs Threshold) ≡ assigned rs

@@ -1,5 +1,5 @@
 -- A table unpacked into columns of numbers, which is what the analysis runs on.
-use Rattle.std.specs.Prelude.{ℕ, zero, suc, ◌+◌, ◌-◌, ◌*◌, ◌/◌, ◌%◌, ◌<◌, ◌≤◌, cond, List, [], ◌++◌, ltb, get_or, replicate}
+use Rattle.std.specs.Prelude.{ℕ, ◌<◌, ◌≤◌, List, [], get_or}
 use Rattle.paper.specs.Vocabulary.{list_to}
 use Rattle.paper.specs.Numbers.{most_tasks, most_ticks, rec, Assignment}
 use Rattle.paper.specs.Analysis.{Tasks}
@@ -20,31 +20,9 @@ value_in Jitter r = r.jitter
 abbrev pub column_of : List Record → Column → List ℕ
 column_of rs which = list_to most_tasks (λ j. value_in which (rec rs j))
 
--- the columns of the tasks in one list, one after the other
-abbrev pub task_columns : ℕ
-task_columns = 4
-
-abbrev pub column_at : ℕ → Column
-column_at zero = Cost
-column_at (suc zero) = Period
-column_at (suc (suc zero)) = Deadline
-column_at (suc (suc (suc m))) = Jitter
-
-abbrev pub columns_of : List Record → List ℕ
-columns_of rs = list_to (task_columns * most_tasks) (λ j. value_in (column_at (j / most_tasks)) (rec rs (j % most_tasks)))
-
--- the first j of these numbers, and 0 for the others still
-abbrev pub filled_to : List Record → ℕ → List ℕ
-filled_to rs j =
-    list_to j (λ j. value_in (column_at (j / most_tasks)) (rec rs (j % most_tasks))) ++ replicate (task_columns * most_tasks - j) 0
-
--- the number of task k in column m; 0 where there is no such task, as a record that isn't there has it
-unfoldable pub number_at : ℕ → List ℕ → ℕ → ℕ
-number_at m ys k = cond (ltb k most_tasks) (get_or ys (m * most_tasks + k) 0) 0
-
--- the tasks whose numbers stand in such a list
-abbrev pub tasks_by : ℕ → List ℕ → Tasks
-tasks_by n ys = record { n = n; c = number_at 0 ys; t = number_at 1 ys; d = number_at 2 ys; j = number_at 3 ys }
+-- the tasks whose numbers stand in columns; 0 where there is no such task, as a record that isn't there has it
+abbrev pub tasks_by : ℕ → List ℕ → List ℕ → List ℕ → List ℕ → Tasks
+tasks_by n cs ts ds js = record { n = n; c = λ k. get_or cs k 0; t = λ k. get_or ts k 0; d = λ k. get_or ds k 0; j = λ k. get_or js k 0 }
 
 -- an assignment whose priorities and thresholds stand in columns
 abbrev pub assigned_by : List ℕ → List ℕ → Assignment

@@ -2,13 +2,13 @@
 
 #![tactic(auto)]
 
-ghost use Rattle.std.specs.Prelude.{◌≡◌, ◌+◌, ◌*◌, ◌<◌, length};
+ghost use Rattle.std.specs.Prelude.{◌≡◌, ◌<◌, length};
 ghost use Rattle.paper.specs.Numbers.{most_tasks};
-ghost use Rattle.columns.specs.Columns.{value_in, task_columns, column_at, column_of, columns_of, filled_to, number_at};
+ghost use Rattle.columns.specs.Columns.{value_in, column_of, tasks_by, Ranged};
 
-use paper::{MOST_TASKS, Record};
+use paper::{MOST_TASKS, Record, Table};
 
-#[derive(Clone, Copy)]
+#[derive(Clone, Copy, Debug, PartialEq, Eq)]
 pub enum Column {
     Cost,
     Period,
@@ -18,99 +18,116 @@ pub enum Column {
     Jitter,
 }
 
-// How many columns the tasks have; the assignment's two stand beside them.
-const TASK_COLUMNS: usize = 4;
-
-const TASK_NUMBERS: usize = TASK_COLUMNS * MOST_TASKS;
-
-// The numbers of the tasks, column after column: costs, periods, deadlines, jitters.
-pub type Tasks = [u64; TASK_NUMBERS];
+impl Column {
+    fn value_in(self, r: &Record) -> u64
+        ensures { result ≡ value_in self r.now }
+    {
+        match self {
+            Column::Cost => r.cost.into(),
+            Column::Period => r.period.into(),
+            Column::Deadline => r.deadline.into(),
+            Column::Priority => r.priority.into(),
+            Column::Threshold => r.threshold.into(),
+            Column::Jitter => r.jitter.into(),
+        }
+    }
+}
 
 // One number for each task.
 pub type Numbers = [u64; MOST_TASKS];
 
-// C(k), T(k), D(k) and J(k).
-#[tactic(auto, unfolding(crate::specs::Columns::number_at))]
-pub fn cost(y: &Tasks, k: usize) -> u64
-    requires { k < most_tasks }
-    ensures { result ≡ number_at 0 y.now k }
-{
-    y[k]
-}
-
-#[tactic(auto, unfolding(crate::specs::Columns::number_at))]
-pub fn period(y: &Tasks, k: usize) -> u64
-    requires { k < most_tasks }
-    ensures { result ≡ number_at 1 y.now k }
-{
-    y[MOST_TASKS + k]
-}
-
-#[tactic(auto, unfolding(crate::specs::Columns::number_at))]
-pub fn deadline(y: &Tasks, k: usize) -> u64
-    requires { k < most_tasks }
-    ensures { result ≡ number_at 2 y.now k }
-{
-    y[2 * MOST_TASKS + k]
-}
-
-#[tactic(auto, unfolding(crate::specs::Columns::number_at))]
-pub fn jitter(y: &Tasks, k: usize) -> u64
-    requires { k < most_tasks }
-    ensures { result ≡ number_at 3 y.now k }
-{
-    y[3 * MOST_TASKS + k]
-}
-
-fn value_in(which: Column, r: Record) -> u64
-    ensures { result ≡ value_in which r }
-{
-    match which {
-        Column::Cost => r.cost as u64,
-        Column::Period => r.period as u64,
-        Column::Deadline => r.deadline as u64,
-        Column::Priority => r.priority as u64,
-        Column::Threshold => r.threshold as u64,
-        Column::Jitter => r.jitter as u64,
-    }
-}
-
 // Of all records, those past n too. The second promise lets a caller go from columns to records at every index.
-pub fn column_of(rs: [Record; MOST_TASKS], which: Column) -> Numbers
-    ensures value { result ≡ column_of rs which }
-    ensures rs_len { length rs ≡ most_tasks }
+#[tactic(auto, using(laws::proofs::Turns::fills))]
+pub fn column_of(rs: &[Record; MOST_TASKS], which: Column) -> Numbers
+    ensures value { result ≡ column_of rs.now which }
+    ensures rs_len { length rs.now ≡ most_tasks }
 {
     let mut xs = [0u64; MOST_TASKS];
-    let mut k: usize = 0;
-    while k < MOST_TASKS {
-        xs[k] = value_in(which, rs[k]);
-        k += 1;
+    for k in 0..MOST_TASKS {
+        xs[k] = which.value_in(&rs[k]);
     }
     xs
 }
 
-// Column m of the tasks, behind those before it. A loop for each column is quicker than one over all, which would ask at every
-// number which column it is in.
-fn put_column(ys: &mut Tasks, m: usize, rs: [Record; MOST_TASKS], which: Column)
-    requires { (m < task_columns) × (which ≡ column_at m) × (ys.old ≡ filled_to rs (m * most_tasks)) }
-    ensures { ys.new ≡ filled_to rs ((m + 1) * most_tasks) }
-{
-    let mut j: usize = 0;
-    while j < MOST_TASKS {
-        ys[m * MOST_TASKS + j] = value_in(which, rs[j]);
-        j += 1;
-    }
+// Tasks on which the analysis may run: their number and their columns. Priorities and thresholds stand beside it, because the
+// listing makes them anew for each row.
+#[derive(Clone, Copy)]
+pub struct Tasks {
+    pub n: usize,
+    costs: Numbers,
+    periods: Numbers,
+    deadlines: Numbers,
+    jitters: Numbers,
+    ghost ranged: { Ranged (tasks_by n costs periods deadlines jitters) },
 }
 
-// The tasks' columns, likewise.
-pub fn columns_of(rs: [Record; MOST_TASKS]) -> Tasks
-    ensures value { result ≡ columns_of rs }
-    ensures rs_len { length rs ≡ most_tasks }
-{
-    let mut ys = [0u64; TASK_NUMBERS];
-    put_column(&mut ys, 0, rs, Column::Cost);
-    put_column(&mut ys, 1, rs, Column::Period);
-    put_column(&mut ys, 2, rs, Column::Deadline);
-    put_column(&mut ys, 3, rs, Column::Jitter);
-    ys
+impl Tasks {
+    ghost use Rattle.std.specs.Prelude.{◌≡◌, ◌<◌};
+    ghost use Rattle.paper.specs.Numbers.{most_tasks};
+    ghost use Rattle.paper.specs.Analysis.{tasks_of};
+    ghost use Rattle.columns.specs.Columns.{tasks_by, Ranged};
+    ghost use Rattle.columns.specs.Tasks.{tasks_in};
+
+    // Those of a table.
+    pub fn new(t: &Table) -> Tasks
+        requires { Ranged (tasks_of t.now.records t.now.n) }
+        ensures { tasks_in result ≡ tasks_of t.now.records t.now.n }
+    {
+        Tasks {
+            n: t.n,
+            costs: column_of(&t.records, Column::Cost),
+            periods: column_of(&t.records, Column::Period),
+            deadlines: column_of(&t.records, Column::Deadline),
+            jitters: column_of(&t.records, Column::Jitter),
+        }
+    }
+
+    // Those whose numbers stand in four columns.
+    pub fn by(
+        n: usize,
+        costs: &Numbers,
+        periods: &Numbers,
+        deadlines: &Numbers,
+        jitters: &Numbers,
+    ) -> Tasks
+        requires { Ranged (tasks_by n costs.now periods.now deadlines.now jitters.now) }
+        ensures { tasks_in result ≡ tasks_by n costs.now periods.now deadlines.now jitters.now }
+    {
+        Tasks {
+            n,
+            costs: *costs,
+            periods: *periods,
+            deadlines: *deadlines,
+            jitters: *jitters,
+        }
+    }
+
+    // C(k), T(k), D(k) and J(k).
+    pub fn cost(&self, k: usize) -> u64
+        requires { k < most_tasks }
+        ensures { result ≡ (tasks_in self.now).c k }
+    {
+        self.costs[k]
+    }
+
+    pub fn period(&self, k: usize) -> u64
+        requires { k < most_tasks }
+        ensures { result ≡ (tasks_in self.now).t k }
+    {
+        self.periods[k]
+    }
+
+    pub fn deadline(&self, k: usize) -> u64
+        requires { k < most_tasks }
+        ensures { result ≡ (tasks_in self.now).d k }
+    {
+        self.deadlines[k]
+    }
+
+    pub fn jitter(&self, k: usize) -> u64
+        requires { k < most_tasks }
+        ensures { result ≡ (tasks_in self.now).j k }
+    {
+        self.jitters[k]
+    }
 }

@@ -1,45 +1,45 @@
 // The first stage of reading: what is asked of the head, the plate and the length. Only what passes is unpacked (reader).
 #![tactic(auto)]
 
-ghost use Rattle.std.specs.Prelude.{◌≡◌};
+ghost use Rattle.std.specs.Prelude.{◌≡◌, IfOk};
 ghost use Rattle.paper.specs.Refusals.{first_of};
-ghost use Rattle.file_head.specs.Asks.{head_asks};
+ghost use Rattle.file_head.specs.Asks.{outcome_of, head_asks, IsShape};
 
-use paper::{Cabinet, Line, Outcome, Refusal};
+use layout::Shape;
+use paper::{Plate, Refusal};
 
-// Asks 1, 2, 18, 3 to 6.
-pub fn head(file: &[u8], cabinet: Cabinet, line: Line) -> Outcome
-    ensures { result ≡ first_of (head_asks file.now cabinet.0 line.0) }
+// Asks 1, 2, 18, 3 to 6. What passes has the shape that its head says, and that shape's length.
+pub fn head(file: &[u8], plate: Plate) -> Result<Shape, Refusal>
+    ensures outcome { outcome_of result ≡ first_of (head_asks file.now plate.cabinet.0 plate.line.0) }
+    ensures shape { IfOk result (IsShape file.now) }
 {
     if file.len() < layout::SHORTEST {
-        return Outcome::Refused(Refusal::Short);
+        return Err(Refusal::Short);
     }
-    let edition = layout::edition_of(file);
-    if !layout::is_edition(edition) {
-        return Outcome::Refused(Refusal::WrongEdition);
-    }
-    let its_cabinet = layout::cabinet_of(file);
-    let its_line = layout::line_of(file);
-    let plate_cabinet = cabinet.0 as u64;
-    let plate_line = line.0 as u64;
-    let blank = checks::is_blank(its_cabinet, its_line)
-        | checks::is_blank(plate_cabinet, plate_line);
+    let edition = layout::edition_of(file)?;
+    let its = layout::plate_of(file);
+    let blank = checks::plate_is_blank(its) || checks::plate_is_blank(plate);
     if blank {
-        return Outcome::Refused(Refusal::BlankPlate);
+        return Err(Refusal::BlankPlate);
     }
-    if its_cabinet != plate_cabinet {
-        return Outcome::Refused(Refusal::WrongCabinet);
+    if its.cabinet != plate.cabinet {
+        return Err(Refusal::WrongCabinet);
     }
-    if its_line != plate_line {
-        return Outcome::Refused(Refusal::WrongLine);
+    if its.line != plate.line {
+        return Err(Refusal::WrongLine);
     }
-    let n = layout::task_count(file);
-    let m = layout::word_count(file);
-    if !checks::counts_in_range(n, m) {
-        return Outcome::Refused(Refusal::WrongCounts);
+    let tasks = layout::task_count(file);
+    let words = layout::word_count(file);
+    if !checks::counts_in_range(tasks, words) {
+        return Err(Refusal::WrongCounts);
     }
-    if file.len() != layout::file_length(edition, n, m) {
-        return Outcome::Refused(Refusal::WrongLength);
+    let shape = Shape {
+        edition,
+        tasks,
+        words,
+    };
+    if file.len() != shape.file_length() {
+        return Err(Refusal::WrongLength);
     }
-    Outcome::Done
+    Ok(shape)
 }

@@ -15,7 +15,7 @@ use Rattle.paper.specs.declared.Source.TheVariants.{Own, Catalogue}
 use Rattle.paper.specs.declared.Record.{Record}
 use Rattle.paper.proofs.Tests.{every_fails}
 use Rattle.paper.proofs.Extremes.{lowest_none, lowest_either}
-use Rattle.first_jobs.specs.Firsts.{in_source, inside_at, first_outside}
+use Rattle.first_jobs.specs.Firsts.{in_source, inside, first_outside}
 
 -- a job that is named for lying outside the catalogue breaks the rules of regions: refusal 11 would be given for it alone
 outside_breaks : (s : Source) (r : Record) (own catalogue : List ℕ) → r.source ≡ s → in_source s (leb (r.first + r.count) (length catalogue)) ≡ false
@@ -35,12 +35,12 @@ pub outside_refused : (rs : List Record) (n : ℕ) (own catalogue : List ℕ) (k
 unfolding all_regions_hold
 outside_refused rs n own catalogue k e =
     ⊎_elim
-    (λ none. absurd (omega (arith, lowest_none (λ j. not (inside_at rs (length catalogue) j)) n none)))
+    (λ none. absurd (omega (arith, lowest_none (λ j. not (inside (rec rs j) (length catalogue))) n none)))
     (λ r.
-    let b = not-true (inside_at rs (length catalogue) r.0) r.2 in
+    let b = not-true (inside (rec rs r.0) (length catalogue)) r.2 in
     let f = every_fails n (λ j. record_regions_hold own catalogue (rec rs j)) r.0 r.1 (outside_breaks (rec rs r.0).source (rec rs r.0) own catalogue refl b) in
     rw f (and-false (words_in_range own 0 (length own))))
-    (lowest_either (λ j. not (inside_at rs (length catalogue) j)) n)
+    (lowest_either (λ j. not (inside (rec rs j) (length catalogue))) n)
   where
     and-false : (b : Bool) → (b && false) ≡ false
     and-false true = refl

@@ -1,130 +1,101 @@
 // How many jobs a table has, and the first of them of which something doesn't hold: it is late, has a region above its length,
 // is not shown by the test of fixed preemption points, has a jitter, or finds the catalogue ending before its regions.
-// specs/Firsts.antt says which job that is.
+// specs/Firsts.antt says which job that is. Its number counts from 1.
 #![tactic(auto)]
 
-ghost use Rattle.std.specs.Prelude.{◌+◌, ◌<◌, ◌≤◌, min, ◌≡◌, not, leb, eqb};
+ghost use Rattle.std.specs.Prelude.{ℕ, Bool, ◌<◌, ◌≤◌, min, ◌≡◌, not};
 ghost use Rattle.paper.specs.Vocabulary.{lowest};
-ghost use Rattle.paper.specs.Numbers.{most_tasks, rec};
+ghost use Rattle.paper.specs.Numbers.{most_tasks};
 ghost use Rattle.paper.specs.Analysis.{within};
-ghost use Rattle.first_jobs.specs.Firsts.{keeps_at, is_shown, in_source, first_outside};
-ghost use Rattle.first_jobs.specs.Asked.{holds_at};
+ghost use Rattle.first_jobs.specs.Firsts.{numbered, keeps_at, first_jitter, first_late, first_unfit, first_not_shown, inside, first_outside};
 
-use paper::{MOST_TASKS, Record, Shown, Source, Table, Time};
+use paper::{MOST_TASKS, Record, Response, Shown, Source, Table};
 use show_facts::Facts;
 
 // How many jobs a table has, at most as many as it holds.
-pub fn jobs_of(t: Table) -> usize
+pub fn jobs_of(t: &Table) -> usize
     ensures upper_bound { result ≤ most_tasks }
-    ensures value { result ≡ min t.n most_tasks }
+    ensures value { result ≡ min t.now.n most_tasks }
 {
-    let n = t.n;
-    if n < MOST_TASKS { n } else { MOST_TASKS }
+    t.n.min(MOST_TASKS)
 }
 
-// What is asked of a job: that it keeps its deadline, that none of its regions is above its length, that its jitter is 0, that it
-// passes the test of fixed preemption points.
-#[derive(Clone, Copy)]
-pub enum Asked {
-    Deadline,
-    Regions,
-    Jitter,
-    Points,
+// The first of n jobs that fails a test, which p computes.
+#[tactic(auto, using(crate::proofs::Firsts::firsts))]
+fn first_failing<F: Fn(usize) -> bool>(n: usize, test: F) -> Option<usize>
+    ghost p: { ℕ → Bool }
+    requires callable { (k : ℕ) → k < n → F.pre test k }
+    requires computes { (k : ℕ) (b : Bool) → F.post test k b → b ≡ p k }
+    ensures { result ≡ numbered (lowest n (λ k. not (p k))) }
+{
+    for k in 0..n {
+        if !test(k) {
+            return Some(k + 1);
+        }
+    }
+    None
 }
 
-fn keeps(time: Time, deadline: u64) -> bool
+#[tactic(auto, unfolding(paper::specs::Analysis::within))]
+fn keeps(time: Option<u64>, deadline: u32) -> bool
     ensures { result ≡ within time deadline }
 {
     match time {
-        Time::At(x) => x <= deadline,
-        Time::Beyond => false,
+        Some(time) => time <= deadline as u64,
+        None => false,
     }
 }
 
-fn keeps_at(f: Facts, k: usize) -> bool
+fn keeps_at(f: &Facts, times: &[Response; MOST_TASKS], k: usize) -> bool
     requires { k < most_tasks }
-    ensures { result ≡ keeps_at f k }
+    ensures { result ≡ keeps_at f.now times.now k }
 {
-    let r = show_facts::record_of(f.table, k);
-    keeps(show_facts::time_at(f.times, k), r.deadline as u64)
+    keeps(times[k].time, f.table.records[k].deadline)
 }
 
-fn is_shown(shown: Shown) -> bool
-    ensures { result ≡ is_shown shown }
+// The first job that doesn't keep its deadline.
+pub fn first_late(f: &Facts) -> Option<usize>
+    ensures { result ≡ numbered (first_late f.now) }
 {
-    match shown {
-        Shown::Passes => true,
-        Shown::NotShown => false,
-    }
+    let times = f.times.ok()?;
+    first_failing(jobs_of(&f.table), |k| keeps_at(f, &times, k))
 }
 
-fn still_at(t: Table, k: usize) -> bool
-    requires { k < most_tasks }
-    ensures { result ≡ eqb (rec t.records k).jitter 0 }
+// The first job with a region above its length.
+pub fn first_unfit(f: &Facts) -> Option<usize>
+    ensures { result ≡ numbered (first_unfit f.now) }
 {
-    let r = show_facts::record_of(t, k);
-    r.jitter == 0
+    let fits = f.fits.ok()?;
+    first_failing(jobs_of(&f.table), |k| fits[k])
 }
 
-fn holds_at(f: Facts, asked: Asked, k: usize) -> bool
-    requires { k < most_tasks }
-    ensures { result ≡ holds_at f asked k }
+// The first job that the test of fixed preemption points doesn't show.
+pub fn first_not_shown(f: &Facts) -> Option<usize>
+    ensures { result ≡ numbered (first_not_shown f.now) }
 {
-    match asked {
-        Asked::Deadline => keeps_at(f, k),
-        Asked::Regions => {
-            let fits = f.fits;
-            show_facts::fit_at(fits, k)
-        }
-        Asked::Jitter => still_at(f.table, k),
-        Asked::Points => is_shown(show_facts::shown_at(f.points, k)),
-    }
+    let points = f.points.ok()?;
+    first_failing(jobs_of(&f.table), |k| points[k] == Shown::Passes)
 }
 
-// The number of the first job of which it does not hold, or 0.
-pub fn first_failing(f: Facts, asked: Asked, n: usize) -> usize
-    requires { n ≤ most_tasks }
-    ensures { result ≡ lowest n (λ k. not (holds_at f asked k)) }
+// The first job with a jitter.
+pub fn first_jitter(f: &Facts) -> Option<usize>
+    ensures { result ≡ numbered (first_jitter f.now) }
 {
-    let mut k: usize = 0;
-    while k < n {
-        if !holds_at(f, asked, k) {
-            return k + 1;
-        }
-        k += 1;
-    }
-    0
+    first_failing(jobs_of(&f.table), |k| f.table.records[k].jitter == 0)
 }
 
-fn in_source(source: Source, inside: bool) -> bool
-    ensures { result ≡ in_source source inside }
+fn inside(r: &Record, size: usize) -> bool
+    ensures { result ≡ inside r.now size }
 {
-    match source {
+    match r.source {
         Source::Own => true,
-        Source::Catalogue => inside,
+        Source::Catalogue => r.first as usize + r.count as usize <= size,
     }
 }
 
-fn inside(r: Record, size: usize) -> bool
-    ensures { result ≡ in_source r.source (leb (r.first + r.count) size) }
+// The first job that takes its regions from the catalogue and finds it ending before them.
+pub fn first_outside(t: &Table, size: usize) -> Option<usize>
+    ensures { result ≡ numbered (first_outside t.now.records (min t.now.n most_tasks) size) }
 {
-    let source = r.source;
-    let first = r.first as usize;
-    let count = r.count as usize;
-    in_source(source, first + count <= size)
-}
-
-// The number of the first job that takes its regions from the catalogue and finds it ending before them, or 0.
-pub fn first_outside(rs: [Record; MOST_TASKS], n: usize, size: usize) -> usize
-    requires { n ≤ most_tasks }
-    ensures { result ≡ first_outside rs n size }
-{
-    let mut k: usize = 0;
-    while k < n {
-        if !inside(rs[k], size) {
-            return k + 1;
-        }
-        k += 1;
-    }
-    0
+    first_failing(jobs_of(t), |k| inside(&t.records[k], size))
 }

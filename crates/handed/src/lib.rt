@@ -1,3 +1,3 @@
 // No code: the walks by hand in proofs/, for functions that make a struct with a reference in it and for those that take one apart.
-// The four calls of `parts` and `last_part` that make one are proved through the first; nothing needs the second any more.
+// Nothing is proved through them any more: they stand as theorems that docs/ names (`hands`, `takes_apart`).
 #![tactic(auto)]

@@ -4,7 +4,6 @@ use mathlib.Core.Path.{◌≡◌, refl}
 use mathlib.Core.Bool.{◌&&◌, cond}
 use native.Mathlib.Omega.{arith}
 use lib.Dec.{leb, ltb}
-use Rattle.paper.specs.Vocabulary.{max_to}
 use Rattle.paper.specs.Numbers.{most_ticks, Assignment}
 use Rattle.paper.specs.Analysis.{Tasks, blocks, blocking, standing}
 use Rattle.laws.proofs.Sums.{max_bound, part_bound}
@@ -17,15 +16,7 @@ abbrev pub block_of : Tasks → Assignment → ℕ → ℕ → ℕ
 block_of y a own j = cond (leb (a.h j) own && ltb own (a.p j)) (y.c j) 0
 
 module _ (y : Tasks) (a : Assignment) where
-  -- by its own cost
-  pub block_is : (own j : ℕ) {c r : ℕ} → c ≡ y.c j → r ≡ cond (leb (a.h j) own && ltb own (a.p j)) c 0 → r ≡ block_of y a own j
-  block_is own j ec e = rw (← ec) e
-
   module _ (i : ℕ) where
-    pub blocking_is : blocking y a i ≡ max_to y.n (block_of y a (a.p i))
-    unfolding blocking blocks
-    blocking_is = refl
-
     -- where task i stands, by the priorities alone: the others' thresholds play no part
     module _ (h : ℕ → ℕ) (s : Stand) (e : s ≡ stand_of y a i) where
       pub stand_is : standing y a i ≡ stand_by (record { p = a.p; h = h }) s

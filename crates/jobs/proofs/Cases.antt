@@ -1,5 +1,6 @@
 -- L, S and F are each the solution of such an equation, and each may be climbed to from where the code starts.
 use Prim.Native.Nat.{ℕ, zero, suc, ◌+◌, ◌-◌, ◌*◌, ◌≤◌, ◌<◌, zero-le}
+use Rattle.std.proofs.Common.{Some}
 use mathlib.Core.Path.{◌≡◌, ap, sym, ◌∙◌, fun_ext}
 use native.Mathlib.Omega.{arith}
 use native.Mathlib.Numerals.{add-one}
@@ -8,7 +9,6 @@ use borrow.Author.Tests.{le-leb, eqb-true}
 use lib.Dec.{leb, ltb, eqb, leb-suc-suc}
 use Rattle.paper.specs.Numbers.{most_ticks, horizon, Assignment}
 use Rattle.paper.specs.Analysis.{Tasks, before, by, load, level_sum, level_of, start_sum, start_of, finish_sum, finish_of}
-use Rattle.paper.specs.declared.Time.TheVariants.{At}
 use Rattle.paper.proofs.Searched.{searched}
 use Rattle.paper.proofs.Responses.{first_job}
 use Rattle.laws.proofs.Least.{fixed, least_same, under_skip, under_larger}
@@ -75,7 +75,7 @@ module _ (y : Tasks) (a : Assignment) (r : Ranged y) (s : Stand) where
             );
       }
 
-  pub level_range : (l : ℕ) → level_of y (stand_by a s) ≡ At l → l ≤ horizon
+  pub level_range : (l : ℕ) → level_of y (stand_by a s) ≡ Some l → l ≤ horizon
   unfolding level_of
   level_range l e = omega (arith, (searched _ 1 horizon l e).high)
 
@@ -86,7 +86,7 @@ module _ (y : Tasks) (a : Assignment) (r : Ranged y) (s : Stand) where
     unfolding side start_sum
     start_side x = omega (arith, by_work s.p x)
 
-    pub start_range : (v : ℕ) → start_of y (stand_by a s) i k ≡ At v → v ≤ horizon
+    pub start_range : (v : ℕ) → start_of y (stand_by a s) i k ≡ Some v → v ≤ horizon
     unfolding start_of
     start_range v e = omega (arith, (searched _ 0 (horizon + 1) v e).high)
 
@@ -115,7 +115,7 @@ module _ (y : Tasks) (a : Assignment) (r : Ranged y) (s : Stand) where
   start_next i k x = omega (arith, add-mul k 1 (y.c i), one-mul (y.c i))
 
   -- and the next at least a cost later than this one
-  pub climbs_next : (i k v : ℕ) → start_of y (stand_by a s) i k ≡ At v → Climbs (start_sum y (stand_by a s) i (k + 1)) (v + y.c i)
+  pub climbs_next : (i k v : ℕ) → start_of y (stand_by a s) i k ≡ Some v → Climbs (start_sum y (stand_by a s) i (k + 1)) (v + y.c i)
   unfolding start_of
   climbs_next i k v e =
       let this = start_sum y (stand_by a s) i k in

@@ -1,12 +1,9 @@
 -- Where a task stands, and when its jobs run.
-use Rattle.std.specs.Prelude.{ℕ, ◌-◌, ◌≤◌, ◌<◌, ◌≡◌, leb, ltb}
+use Rattle.std.specs.Prelude.{ℕ, ◌-◌, ◌≤◌, ◌<◌, ◌≡◌, leb, ltb, Option, Some, None}
 use Rattle.paper.specs.Numbers.{most_tasks, most_ticks, Assignment}
 use Rattle.paper.specs.Analysis.{Tasks, Standing, before, blocking, level_of, start_of, finish_of}
-use Rattle.paper.specs.declared.Time.{Time}
-use Rattle.paper.specs.declared.Time.TheVariants.{At, Beyond}
 use Rattle.jobs.specs.declared.Stand.{Stand}
-use Rattle.jobs.specs.declared.Span.{Span}
-use Rattle.jobs.specs.declared.Span.TheVariants.{Ends}
+use Rattle.jobs.specs.declared.Ran.{Ran}
 
 -- where a task stands, by its own numbers and the others' priorities
 abbrev pub stand_by : Assignment → Stand → Standing
@@ -34,21 +31,21 @@ pub record Climbs (f : ℕ → ℕ) (from : ℕ) : Type 0 where
   pub under : (x : ℕ) → x ≡ f x → from ≤ x
 
 -- a job by its start and its finish
-unfoldable pub finished : ℕ → Time → Span
-finished start (At f) = Ends start f
-finished start Beyond = Span.Beyond
+unfoldable pub finished : ℕ → Option ℕ → Option Ran
+finished start (Some f) = Some (record { start = start; end = f })
+finished start None = None
 
-unfoldable pub span_from : Tasks → Standing → ℕ → Time → Span
-span_from y s i (At start) = finished start (finish_of y s i start)
-span_from y s i Beyond = Span.Beyond
+unfoldable pub ran_from : Tasks → Standing → ℕ → Option ℕ → Option Ran
+ran_from y s i (Some start) = finished start (finish_of y s i start)
+ran_from y s i None = None
 
-unfoldable pub span_of : Tasks → Standing → ℕ → ℕ → Span
-span_of y s i k = span_from y s i (start_of y s i k)
+unfoldable pub ran_of : Tasks → Standing → ℕ → ℕ → Option Ran
+ran_of y s i k = ran_from y s i (start_of y s i k)
 
 -- jobs k run from 0 to ceil((L + J(i))/T(i)) − 1: how many these are
-unfoldable pub count_from : Tasks → ℕ → Time → Time
-count_from y i (At l) = At (before y l i)
-count_from y i Beyond = Beyond
+unfoldable pub count_from : Tasks → ℕ → Option ℕ → Option ℕ
+count_from y i (Some l) = Some (before y l i)
+count_from y i None = None
 
-unfoldable pub job_count : Tasks → Standing → ℕ → Time
+unfoldable pub job_count : Tasks → Standing → ℕ → Option ℕ
 job_count y s i = count_from y i (level_of y s)

@@ -2,18 +2,17 @@
 
 #![tactic(auto)]
 
-ghost use Rattle.std.specs.Prelude.{◌≡◌, cond, ◌&&◌, ◌-◌, ◌<◌, ◌≤◌, max, leb, ltb};
-ghost use Rattle.paper.specs.Numbers.{most_tasks, horizon};
-ghost use Rattle.paper.specs.Analysis.{blocking, level_of, start_sum, start_of, finish_of};
-ghost use Rattle.columns.specs.Columns.{tasks_by, assigned_by, ranked_by, Ranged};
-ghost use Rattle.jobs.specs.Stands.{stand_by, stand_of, Stands, Climbs, span_of, job_count};
+ghost use Rattle.std.specs.Prelude.{◌≡◌, cond, ◌&&◌, ◌<◌, ◌≤◌, leb, ltb};
+ghost use Rattle.paper.specs.Analysis.{blocking};
+ghost use Rattle.columns.specs.Columns.{assigned_by, ranked_by};
+ghost use Rattle.columns.specs.Tasks.{tasks_in};
+ghost use Rattle.jobs.specs.Stands.{stand_of, Stands};
 
 use climb::Equation;
 use columns::{Numbers, Tasks};
-use paper::Time;
 
 // Where a task stands: its number i, for how long, b, it is blocked, its priority and its threshold.
-#[derive(Clone, Copy)]
+#[derive(Clone, Copy, Debug, PartialEq, Eq)]
 pub struct Stand {
     pub i: usize,
     pub b: u64,
@@ -21,24 +20,11 @@ pub struct Stand {
     pub h: u64,
 }
 
-// When a job runs: its start S and its finish F, or neither at or below the horizon.
-#[derive(Clone, Copy)]
-pub enum Span {
-    Ends(u64, u64),
-    Beyond,
-}
-
-pub fn larger(a: u64, b: u64) -> u64
-    ensures { result ≡ max a b }
-{
-    if a < b { b } else { a }
-}
-
-// f less r, or 0.
-pub fn less(f: u64, r: u64) -> u64
-    ensures { result ≡ f - r }
-{
-    if r < f { f - r } else { 0 }
+// When a job runs: its start S and its finish F.
+#[derive(Clone, Copy, Debug, PartialEq, Eq)]
+pub struct Ran {
+    pub start: u64,
+    pub end: u64,
 }
 
 // What one task adds to the blocking of a task of priority `own`.
@@ -48,112 +34,128 @@ fn block_part(own: u64, c: u64, p: u64, h: u64) -> u64
     if (h <= own) & (own < p) { c } else { 0 }
 }
 
-fn blocking(n: usize, y: &Tasks, p: &Numbers, h: &Numbers, i: usize) -> u64
-    requires { (i < n) × (n ≤ most_tasks) }
-    ensures { result ≡ blocking (tasks_by n y.now) (assigned_by p.now h.now) i }
+#[tactic(auto, using(laws::proofs::Turns::largest), unfolding(paper::specs::Vocabulary::max_to, paper::specs::Analysis::blocking, paper::specs::Analysis::blocks))]
+fn blocking(y: &Tasks, p: &Numbers, h: &Numbers, i: usize) -> u64
+    requires { i < y.now.n }
+    ensures { result ≡ blocking (tasks_in y.now) (assigned_by p.now h.now) i }
 {
     let own = p[i];
-    let mut most = 0;
-    let mut j = 0;
-    while j < n {
-        most = larger(most, block_part(own, columns::cost(y, j), p[j], h[j]));
-        j = j + 1;
+    let mut most: u64 = 0;
+    for j in 0..y.n {
+        most = most.max(block_part(own, y.cost(j), p[j], h[j]));
     }
     most
 }
 
-pub fn stand_of(n: usize, y: &Tasks, p: &Numbers, h: &Numbers, i: usize) -> Stand
-    requires { (i < n) × (n ≤ most_tasks) }
-    ensures { result ≡ stand_of (tasks_by n y.now) (assigned_by p.now h.now) i }
+fn stand_of(y: &Tasks, p: &Numbers, h: &Numbers, i: usize) -> Stand
+    requires { i < y.now.n }
+    ensures { result ≡ stand_of (tasks_in y.now) (assigned_by p.now h.now) i }
 {
     // A blocker has run for a tick when the task arrives.
-    let b = less(blocking(n, y, p, h, i), 1);
-    let priority = p[i];
-    let threshold = h[i];
+    let b = blocking(y, p, h, i).saturating_sub(1);
     Stand {
-        i: i,
-        b: b,
-        p: priority,
-        h: threshold,
+        i,
+        b,
+        p: p[i],
+        h: h[i],
     }
 }
 
-// L. The task counts itself, so that L is above 0.
-fn level(n: usize, y: &Tasks, p: &Numbers, s: Stand) -> Time
-    requires { Ranged (tasks_by n y.now) × Stands (tasks_by n y.now) (ranked_by p.now) s }
-    ensures { result ≡ level_of (tasks_by n y.now) (stand_by (ranked_by p.now) s) }
-{
-    let limit = s.p + 1;
-    let e = Equation {
-        limit: limit,
-        base: s.b,
-        off: 0,
-        edge: 0,
-    };
-    climb::solve(n, y, p, e, 1)
+// A task among the others: the numbers and the priorities of all, and where this one stands.
+#[derive(Clone, Copy)]
+pub struct Task<'a> {
+    pub all: &'a Tasks,
+    priorities: &'a Numbers,
+    pub stand: Stand,
+    ghost stands: { Stands (tasks_in all.now) (ranked_by priorities.now) stand },
 }
 
-// How many jobs the active period has: those that may have been asked for before L.
-pub fn job_count(n: usize, y: &Tasks, p: &Numbers, s: Stand) -> Time
-    requires { Ranged (tasks_by n y.now) × Stands (tasks_by n y.now) (ranked_by p.now) s }
-    ensures { result ≡ job_count (tasks_by n y.now) (stand_by (ranked_by p.now) s) s.i }
-{
-    let l = level(n, y, p, s);
-    let Time::At(v) = l else {
-        return Time::Beyond;
-    };
-    let period = columns::period(y, s.i);
-    let jitter = columns::jitter(y, s.i);
-    let many = climb::arrived(v, period, jitter);
-    Time::At(many)
-}
+impl<'a> Task<'a> {
+    ghost use Rattle.std.specs.Prelude.{◌≡◌, ◌≤◌, ◌<◌};
+    ghost use Rattle.paper.specs.Numbers.{horizon};
+    ghost use Rattle.paper.specs.Analysis.{level_of, start_sum, start_of, finish_of};
+    ghost use Rattle.columns.specs.Columns.{ranked_by, assigned_by, Placed};
+    ghost use Rattle.columns.specs.Tasks.{tasks_in};
+    ghost use Rattle.jobs.specs.Stands.{stand_of, Climbs, ran_of, job_count};
+    ghost use Rattle.jobs.specs.Task.{tasks_at, standing_at};
 
-// S of job k, which is known to be at least `from`. Jobs that are asked for at S itself go first: the edge.
-fn start(n: usize, y: &Tasks, p: &Numbers, s: Stand, k: u64, from: u64) -> Time
-    requires ranged { Ranged (tasks_by n y.now) × Stands (tasks_by n y.now) (ranked_by p.now) s × (k ≤ horizon) }
-    requires climbs { Climbs (start_sum (tasks_by n y.now) (stand_by (ranked_by p.now) s) s.i k) from }
-    ensures { result ≡ start_of (tasks_by n y.now) (stand_by (ranked_by p.now) s) s.i k }
-{
-    let own = columns::cost(y, s.i);
-    let base = s.b + k * own;
-    let e = Equation {
-        limit: s.p,
-        base: base,
-        off: 0,
-        edge: 1,
-    };
-    climb::solve(n, y, p, e, from)
-}
+    pub fn new(y: &'a Tasks, p: &'a Numbers, h: &Numbers, i: usize) -> Task<'a>
+        requires placed { Placed y.now.n (assigned_by p.now h.now) }
+        requires among { i < y.now.n }
+        ensures all { result.all.now ≡ y.now }
+        ensures priorities { result.priorities.now ≡ p.now }
+        ensures stand { result.stand ≡ stand_of (tasks_in y.now) (assigned_by p.now h.now) i }
+    {
+        Task {
+            all: y,
+            priorities: p,
+            stand: stand_of(y, p, h, i),
+        }
+    }
 
-// F of a job that starts at `begun`. What was asked for by then, at `begun` too, had started: it is taken off.
-fn finish(n: usize, y: &Tasks, p: &Numbers, s: Stand, begun: u64) -> Time
-    requires { Ranged (tasks_by n y.now) × Stands (tasks_by n y.now) (ranked_by p.now) s × (begun ≤ horizon) }
-    ensures { result ≡ finish_of (tasks_by n y.now) (stand_by (ranked_by p.now) s) s.i begun }
-{
-    let off = climb::work(n, y, p, s.h, begun + 1);
-    let own = columns::cost(y, s.i);
-    let base = begun + own;
-    let e = Equation {
-        limit: s.h,
-        base: base,
-        off: off,
-        edge: 0,
-    };
-    climb::solve(n, y, p, e, begun + 1)
-}
+    // L. The task counts itself, so that L is above 0.
+    fn level(&self) -> Option<u64>
+        ensures { result ≡ level_of (tasks_at self.now) (standing_at self.now) }
+    {
+        let e = Equation {
+            limit: self.stand.p + 1,
+            base: self.stand.b,
+            off: 0,
+            edge: 0,
+        };
+        climb::solve(self.all, self.priorities, e, 1)
+    }
 
-pub fn job(n: usize, y: &Tasks, p: &Numbers, s: Stand, k: u64, from: u64) -> Span
-    requires ranged { Ranged (tasks_by n y.now) × Stands (tasks_by n y.now) (ranked_by p.now) s × (k ≤ horizon) }
-    requires climbs { Climbs (start_sum (tasks_by n y.now) (stand_by (ranked_by p.now) s) s.i k) from }
-    ensures { result ≡ span_of (tasks_by n y.now) (stand_by (ranked_by p.now) s) s.i k }
-{
-    let a = start(n, y, p, s, k, from);
-    let Time::At(begun) = a else {
-        return Span::Beyond;
-    };
-    let f = finish(n, y, p, s, begun);
-    let Time::At(end) = f else {
-        return Span::Beyond;
-    };
-    Span::Ends(begun, end)
+    // How many jobs the active period has: those that may have been asked for before L.
+    pub fn job_count(&self) -> Option<u64>
+        ensures { result ≡ job_count (tasks_at self.now) (standing_at self.now) self.now.stand.i }
+    {
+        let l = self.level()?;
+        let period = self.all.period(self.stand.i);
+        let jitter = self.all.jitter(self.stand.i);
+        let many = climb::arrived(l, period, jitter);
+        Some(many)
+    }
+
+    // S of job k, which is known to be at least `from`. Jobs that are asked for at S itself go first: the edge.
+    fn start(&self, k: u64, from: u64) -> Option<u64>
+        requires near { k ≤ horizon }
+        requires climbs { Climbs (start_sum (tasks_at self.now) (standing_at self.now) self.now.stand.i k) from }
+        ensures { result ≡ start_of (tasks_at self.now) (standing_at self.now) self.now.stand.i k }
+    {
+        let own = self.all.cost(self.stand.i);
+        let e = Equation {
+            limit: self.stand.p,
+            base: self.stand.b + k * own,
+            off: 0,
+            edge: 1,
+        };
+        climb::solve(self.all, self.priorities, e, from)
+    }
+
+    // F of a job that starts at `begun`. What was asked for by then, at `begun` too, had started: it is taken off.
+    fn finish(&self, begun: u64) -> Option<u64>
+        requires { begun ≤ horizon }
+        ensures { result ≡ finish_of (tasks_at self.now) (standing_at self.now) self.now.stand.i begun }
+    {
+        let off = climb::work(self.all, self.priorities, self.stand.h, begun + 1);
+        let own = self.all.cost(self.stand.i);
+        let e = Equation {
+            limit: self.stand.h,
+            base: begun + own,
+            off,
+            edge: 0,
+        };
+        climb::solve(self.all, self.priorities, e, begun + 1)
+    }
+
+    pub fn job(&self, k: u64, from: u64) -> Option<Ran>
+        requires near { k ≤ horizon }
+        requires climbs { Climbs (start_sum (tasks_at self.now) (standing_at self.now) self.now.stand.i k) from }
+        ensures { result ≡ ran_of (tasks_at self.now) (standing_at self.now) self.now.stand.i k }
+    {
+        let begun = self.start(k, from)?;
+        let end = self.finish(begun)?;
+        Some(Ran { start: begun, end })
+    }
 }

@@ -1,7 +1,6 @@
--- What the last region handed back is: one word, and where it lies in the caller's own memory. On a refusal no word, at the start of the own words; the outcome says which.
-use Rattle.std.specs.Prelude.{ℕ, zero, suc, ◌≡◌, List}
+-- What the last region handed back is: one word, and where it lies in the caller's own memory. A bare one is on a refusal no word, at the start of the own words; the outcome says which.
+use Rattle.std.specs.Prelude.{ℕ, ◌≡◌, List}
 use Rattle.std.specs.Borrow.{Bor}
-use Rattle.paper.specs.Regions.{Part, no_part}
 use Rattle.paper.specs.Answers.{regions_source, last_place, last_words}
 use Rattle.paper.specs.declared.Table.{Table}
 use Rattle.parts.specs.Parts.{LiesIn, slice_of}
@@ -10,8 +9,3 @@ use Rattle.parts.specs.Parts.{LiesIn, slice_of}
 pub record IsLast (t : Table) (own catalogue : Bor (List ℕ)) (number : ℕ) (r : Bor (List ℕ)) : Type 0 where
   pub word : r.now ≡ last_words t own.now catalogue.now number
   pub place : LiesIn (slice_of (regions_source t own.now catalogue.now number) own catalogue) 4 (last_place t own.now catalogue.now number) r
-
--- the last of `count` words, as a part of these words; no part where there is none
-abbrev pub last_of : ℕ → Part
-last_of zero = no_part
-last_of (suc k) = record { from = k; count = 1 }

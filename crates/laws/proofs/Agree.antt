@@ -1,4 +1,5 @@
 -- The pass test, and the check of an assignment, look at the tasks below n alone: equal numbers there give equal answers.
+use Rattle.std.specs.Prelude.{None, Option, Some}
 use Prim.Native.Nat.{ℕ, zero, suc, ◌+◌, ◌-◌, ◌*◌, ◌<◌}
 use mathlib.Core.Path.{◌≡◌, refl, ap, ap₂, ◌∙◌}
 use mathlib.Core.Bool.{Bool, not, cond, ◌&&◌}
@@ -6,8 +7,6 @@ use native.Mathlib.Omega.{arith}
 use lib.Dec.{leb, ltb, eqb}
 use Rattle.paper.specs.Numbers.{horizon, each_once, Assignment, thresholds_hold}
 use Rattle.paper.specs.Analysis.{Tasks, Standing, before, load, blocks, blocking, standing, level_sum, level_of, start_sum, start_of, finish_sum, finish_of, finish_from, job, later, worst, worst_from, response, with_job, within, task_passes, passes}
-use Rattle.paper.specs.declared.Time.{Time}
-use Rattle.paper.specs.declared.Time.TheVariants.{At, Beyond}
 use Rattle.laws.proofs.Every.{every_same, sum_same}
 use Rattle.laws.proofs.Sums.{max_same}
 use Rattle.laws.proofs.Least.{least_same}
@@ -45,10 +44,10 @@ module _ (y : Tasks) where
           least_same _ _ (start + 1) (horizon - start) (λ x _.
           ap (λ w. eqb x (start + y.c i + w)) (load_agree _ _ _ v.cuts))
 
-      finishes_agree : (start : Time) → finish_from y s i start ≡ finish_from y u i start
+      finishes_agree : (start : Option ℕ) → finish_from y s i start ≡ finish_from y u i start
       unfolding finish_from
-      finishes_agree (At start) = finish_agree start
-      finishes_agree Beyond = refl
+      finishes_agree (Some start) = finish_agree start
+      finishes_agree None = refl
 
       job_agree : (k : ℕ) → job y s i k ≡ job y u i k
       unfolding job
@@ -59,10 +58,10 @@ module _ (y : Tasks) where
       worst_agree zero = refl
       worst_agree (suc k) = ap₂ (λ r f. later r f (y.j i) (k * y.t i)) (worst_agree k) (job_agree k)
 
-      worsts_agree : (level : Time) → worst_from y s i level ≡ worst_from y u i level
+      worsts_agree : (level : Option ℕ) → worst_from y s i level ≡ worst_from y u i level
       unfolding worst_from
-      worsts_agree (At level) = worst_agree (before y level i)
-      worsts_agree Beyond = refl
+      worsts_agree (Some level) = worst_agree (before y level i)
+      worsts_agree None = refl
 
       response_agree : response y s i ≡ response y u i
       unfolding response

@@ -1,4 +1,5 @@
 -- The least fixed point of a function that never falls, by the bounded search of the definitions and by climbing to it.
+use Rattle.std.specs.Prelude.{None, Option, Some}
 use Prim.Native.Nat.{ℕ, zero, suc, ◌+◌, ◌-◌, ◌≤◌, ◌<◌}
 use mathlib.Core.Path.{◌≡◌, refl, ap, ap₂, sym, ◌∙◌}
 use mathlib.Core.Bool.{Bool, true, false}
@@ -11,14 +12,12 @@ use borrow.Author.Tests.{eq-eqb, ne_eqb, eqb-true, leb-true, le-leb}
 use Rattle.paper.specs.Vocabulary.{some}
 use Rattle.paper.specs.Numbers.{horizon}
 use Rattle.paper.specs.Analysis.{least, within}
-use Rattle.paper.specs.declared.Time.{Time}
-use Rattle.paper.specs.declared.Time.TheVariants.{At, Beyond}
 use Rattle.paper.proofs.Tests.{some_says, some_there}
 use Rattle.paper.proofs.Searched.{searched}
 
 -- the search
 
-pub least_hit : (test : ℕ → Bool) (from n : ℕ) → test from ≡ true → least test from (suc n) ≡ At from
+pub least_hit : (test : ℕ → Bool) (from n : ℕ) → test from ≡ true → least test from (suc n) ≡ Some from
 unfolding least
 least_hit test from n e = rw (e, least)
 
@@ -27,7 +26,7 @@ unfolding least
 least_miss test from n e = rw (e, least)
 
 -- nothing is left to search
-pub least_none : (test : ℕ → Bool) (from n : ℕ) → n ≡ 0 → least test from n ≡ Beyond
+pub least_none : (test : ℕ → Bool) (from n : ℕ) → n ≡ 0 → least test from n ≡ None
 unfolding least
 least_none test from n e = rw e
 
@@ -43,17 +42,17 @@ least_skip test from (suc k) n h =
     rw (e, f)
     (least_miss test from (k + n) (h from (le_refl from) (omega arith)) ∙ least_skip test (suc from) k n (λ y a b. h y (omega arith) (omega arith)))
 
-pub least_found : (test : ℕ → Bool) (from n x : ℕ) → from ≤ x → x < from + n → test x ≡ true → ((y : ℕ) → from ≤ y → y < x → test y ≡ false) → least test from n ≡ At x
+pub least_found : (test : ℕ → Bool) (from n x : ℕ) → from ≤ x → x < from + n → test x ≡ true → ((y : ℕ) → from ≤ y → y < x → test y ≡ false) → least test from n ≡ Some x
 least_found test from zero x lo hi hit miss = absurd (omega arith)
 least_found test from (suc n) x lo hi hit miss =
     ⊎_elim
-    (λ e. least_hit test from n (rw e hit) ∙ ap At e)
+    (λ e. least_hit test from n (rw e hit) ∙ ap Some e)
     (λ l.
     least_miss test from n (miss from (le_refl from) l)
     ∙ least_found test (suc from) n x l (omega arith) hit (λ y a b. miss y (omega arith) b))
     (eq-or-lt_of_le lo)
 
-pub least_beyond : (test : ℕ → Bool) (from n : ℕ) → ((y : ℕ) → from ≤ y → y < from + n → test y ≡ false) → least test from n ≡ Beyond
+pub least_beyond : (test : ℕ → Bool) (from n : ℕ) → ((y : ℕ) → from ≤ y → y < from + n → test y ≡ false) → least test from n ≡ None
 unfolding least
 least_beyond test from zero miss = refl
 least_beyond test from (suc n) miss =
@@ -65,7 +64,7 @@ pub least_same : (test other : ℕ → Bool) (from n : ℕ) → ((x : ℕ) → f
 unfolding least
 least_same test other from zero h = refl
 least_same test other from (suc n) h =
-    ap₂ (λ b t. elim b as (λ _. Time) [ true ↦ At from | false ↦ t ])
+    ap₂ (λ b t. elim b as (λ _. Option ℕ) [ true ↦ Some from | false ↦ t ])
     (h from (le_refl from))
     (least_same test other (suc from) n (λ x l. h x (omega arith)))
 
@@ -127,20 +126,20 @@ module _ (f : ℕ → ℕ) (from : ℕ) where
     pub climb_less : (y ≡ x → ⊥) → y ≤ horizon → horizon - y < horizon - x
     climb_less d h = omega arith
 
-    pub climb_found : (n : ℕ) → from + n ≡ horizon + 1 → y ≡ x → At x ≡ least (fixed f) from n
+    pub climb_found : (n : ℕ) → from + n ≡ horizon + 1 → y ≡ x → Some x ≡ least (fixed f) from n
     climb_found n c s =
         sym
         (least_found (fixed f) from n x k.low (omega arith) (eq-eqb x (f x) (omega arith)) (λ z a b.
         ne_eqb z (f z) (λ q. omega (arith, k.under z a q))))
 
-    pub climb_beyond : (n : ℕ) → from + n ≡ horizon + 1 → Mono f → horizon < y → Beyond ≡ least (fixed f) from n
+    pub climb_beyond : (n : ℕ) → from + n ≡ horizon + 1 → Mono f → horizon < y → None ≡ least (fixed f) from n
     climb_beyond n c m h =
         sym (least_beyond (fixed f) from n (λ z a b. ne_eqb z (f z) (λ q. omega (arith, under_step f from x m k.under z a q))))
 
 -- the least fixed point from `from` on is found, and is at most x
 pub record Found (f : ℕ → ℕ) (from n x : ℕ) : Type 0 where
   pub z : ℕ
-  pub is : least (fixed f) from n ≡ At z
+  pub is : least (fixed f) from n ≡ Some z
   pub low : from ≤ z
   pub high : z ≤ x
   pub fix : z ≡ f z
@@ -166,7 +165,7 @@ found f from (suc n) x m r lo hi e =
         }
 
 -- so the least is at most every x at which f doesn't rise
-pub least_under : (f : ℕ → ℕ) (from n s : ℕ) → Mono f → from ≤ f from → least (fixed f) from n ≡ At s → (x : ℕ) → from ≤ x → f x ≤ x → s ≤ x
+pub least_under : (f : ℕ → ℕ) (from n s : ℕ) → Mono f → from ≤ f from → least (fixed f) from n ≡ Some s → (x : ℕ) → from ≤ x → f x ≤ x → s ≤ x
 least_under f from n s m r e x lo h = go (dec_lt x (from + n))
   where
     go : Dec (x < from + n) → s ≤ x
@@ -174,7 +173,7 @@ least_under f from n s m r e x lo h = go (dec_lt x (from + n))
     go (no l) = omega (arith, (searched (fixed f) from n s e).high)
 
 -- and rises with f: of a larger g every fixed point is at least what g makes of f's least
-pub under_larger : (f g : ℕ → ℕ) (from n s : ℕ) → Mono f → Mono g → from ≤ f from → ((x : ℕ) → f x ≤ g x) → least (fixed f) from n ≡ At s → Under g from (g s)
+pub under_larger : (f g : ℕ → ℕ) (from n s : ℕ) → Mono f → Mono g → from ≤ f from → ((x : ℕ) → f x ≤ g x) → least (fixed f) from n ≡ Some s → Under g from (g s)
 under_larger f g from n s mf mg r h e y l q =
     omega (arith, mg s y (least_under f from n s mf r e y l (omega (arith, h y))))
 
@@ -183,8 +182,8 @@ pub some_least : (f : ℕ → ℕ) (n : ℕ) → Mono f → 1 ≤ f 1 → n ≤ 
 unfolding within
 some_least f n m r near = go (some n (λ t. leb (f t) t)) refl
   where
-    missed : (z : Time) → least (fixed f) 1 horizon ≡ z → some n (λ t. leb (f t) t) ≡ false → false ≡ within z n
-    missed (At s) e none = ends (leb s n) refl
+    missed : (z : Option ℕ) → least (fixed f) 1 horizon ≡ z → some n (λ t. leb (f t) t) ≡ false → false ≡ within z n
+    missed (Some s) e none = ends (leb s n) refl
       where
         ends : (b : Bool) → leb s n ≡ b → false ≡ b
         ends true h =
@@ -192,7 +191,7 @@ some_least f n m r near = go (some n (λ t. leb (f t) t)) refl
             let at : s ≡ f s = eqb-true s (f s) w.hit in
             sym none ∙ some_there n (λ t. leb (f t) t) s w.low (leb-true s n h) (le-leb (f s) s (omega arith))
         ends false h = refl
-    missed Beyond e none = refl
+    missed None e none = refl
 
     go : (b : Bool) → some n (λ t. leb (f t) t) ≡ b → b ≡ within (least (fixed f) 1 horizon) n
     go true e =

@@ -10,3 +10,5 @@ pub mod Order
 pub mod Steps
 pub mod Tolerated
 pub mod Fronts
+pub mod Turns
+pub mod Chains

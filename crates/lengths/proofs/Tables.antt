@@ -1,7 +1,7 @@
 -- What is worked out on a table's columns is what the paper says of its records.
 use Prim.Native.Nat.{ℕ, ◌<◌}
-use mathlib.Core.Path.{◌≡◌, ap, ap₂, ◌∙◌}
-use mathlib.Core.Bool.{true, false, ◌||◌, or-false}
+use mathlib.Core.Path.{◌≡◌, refl, ap, ◌∙◌}
+use mathlib.Core.Bool.{◌||◌}
 use mathlib.Core.List.{List}
 use lib.IntN.{ℤ, pos, ◌+ℤ◌}
 use lib.ListN.{length, get_or}
@@ -14,20 +14,20 @@ use Rattle.paper.specs.Lengths.{slack, tolerance, no_instant, lowest_no_instant,
 use Rattle.paper.specs.declared.Record.{Record}
 use Rattle.laws.proofs.Every.{every_same, lowest_same}
 use Rattle.laws.proofs.Lists.{per_task_at}
-use Rattle.columns.specs.Columns.{column_of, columns_of, tasks_by, ranked_by}
+use Rattle.columns.specs.Columns.{column_of, ranked_by}
 use Rattle.columns.specs.declared.Column.TheVariants.{Priority}
-use Rattle.columns.proofs.Tables.{tasks-by, assigned-by}
+use Rattle.columns.proofs.Tables.{assigned-by}
 use Rattle.lengths.specs.Stages.{tolerances_of, tolerances_left, lengths_left, falls}
 
--- a table's columns stand for its records; thresholds play no part
-module _ (rs : List Record) (n : ℕ) {ys ps : List ℕ} (full : length rs ≡ most_tasks) (y : ys ≡ columns_of rs) (p : ps ≡ column_of rs Priority) where
-  pub tolerances_by : tolerances_left (tasks_by n ys) (ranked_by ps) ≡ tolerances_left (tasks_of rs n) (assigned rs)
+-- a table's column of priorities stands for its assignment; thresholds play no part
+module _ (rs : List Record) (n : ℕ) {y : Tasks} {ps : List ℕ} (full : length rs ≡ most_tasks) (tasks : y ≡ tasks_of rs n) (p : ps ≡ column_of rs Priority) where
+  pub tolerances_by : tolerances_left y (ranked_by ps) ≡ tolerances_left (tasks_of rs n) (assigned rs)
   unfolding tolerance slack
-  tolerances_by = rw (y, p) (ap₂ tolerances_left (tasks-by rs n full) (assigned-by rs full))
+  tolerances_by = rw (tasks, p) (ap (tolerances_left (tasks_of rs n)) (assigned-by rs full))
 
-  pub lengths_by : lengths_left (tasks_by n ys) (ranked_by ps) ≡ lengths_left (tasks_of rs n) (assigned rs)
+  pub lengths_by : lengths_left y (ranked_by ps) ≡ lengths_left (tasks_of rs n) (assigned rs)
   unfolding lowest_below_zero length_of allowed tolerance slack
-  lengths_by = rw (y, p) (ap₂ lengths_left (tasks-by rs n full) (assigned-by rs full))
+  lengths_by = rw (tasks, p) (ap (lengths_left (tasks_of rs n)) (assigned-by rs full))
 
 -- the tolerances in an array
 module _ (y : Tasks) (a : Assignment) {ticks : List ℤ} (known : ticks ≡ tolerances_of y a) where
@@ -40,14 +40,14 @@ module _ (y : Tasks) (a : Assignment) {ticks : List ℤ} (known : ticks ≡ tole
   allowed_at j l e = ap (λ (z : ℤ). z +ℤ pos 1) (e ∙ tick_at j l)
 
   -- the lowest record that falls under 16, for lengths
-  pub lowest_by : lowest y.n (falls y true ticks) ≡ lowest_below_zero y a
+  pub lowest_by : lowest y.n (falls y ticks) ≡ lowest_below_zero y a
   unfolding lowest_below_zero
   lowest_by = lowest_same y.n _ _ (λ k l. ap (λ q. no_instant y k || lt_z q (pos 0)) (tick_at k l))
 
 -- and for tolerances
-pub lowest_none_by : (y : Tasks) (ticks : List ℤ) → lowest y.n (falls y false ticks) ≡ lowest_no_instant y
+pub lowest_none_by : (y : Tasks) → lowest y.n (no_instant y) ≡ lowest_no_instant y
 unfolding lowest_no_instant
-lowest_none_by y ticks = lowest_same y.n _ _ (λ k l. or-false (no_instant y k))
+lowest_none_by y = refl
 
 -- the region check with the lengths in an array
 pub fit_by : (rs : List Record) (y : Tasks) (a : Assignment) (lengths : List ℤ) (own catalogue : List ℕ) → lengths ≡ per_task y.n (length_of y a) (pos 0)

@@ -5,11 +5,11 @@
 // can't be read or standard output can't be written, it says so on standard error and stops: a list that lost rows has neither.
 #![tactic(auto)]
 
-ghost use Rattle.std.specs.Prelude.{◌≤◌, length};
-
-use paper::{MOST_TASKS, MOST_WORDS, Outcome, Refusal, RowAnswer, Table};
-use request::{PLATE_AND_FILE, PLATE_BYTES};
-use say::Form;
+use paper::{MOST_TASKS, MOST_WORDS, Refusal, Step, Table};
+use request::PLATE_AND_FILE;
+use say::{Refused, Spaced};
+use std::fmt;
+use text::Out;
 
 // As many numbers as the longest row has.
 const ROW: usize = 2 * MOST_TASKS;
@@ -17,126 +17,72 @@ const ROW: usize = 2 * MOST_TASKS;
 // The most rows that are printed (document 02, item 6).
 const MOST_ROWS: u64 = 1_000_000;
 
-fn is_row(answer: RowAnswer) -> bool {
-    match answer {
-        RowAnswer::Row => true,
-        _ => false,
-    }
-}
-
-// The passing row after the one in `row`, put in its place.
-fn step(t: Table, row: &mut [u8]) -> bool {
+// The passing row after the one in `row`, put in its place. Says whether there is one.
+fn step_on(t: Table, row: &mut [u8]) -> bool {
     let mut given = [0u8; ROW];
-    let n = fronts::copy_bytes(row, &mut given);
-    is_row(listing::next_row(t, &given[..n], row))
+    let n = fronts::copy(row, &mut given);
+    matches!(listing::next_row(t, &given[..n], row), Ok(Step::Row))
 }
 
-fn wide(x: u8) -> u64 {
-    x as u64
-}
-
-fn put_row<R: Print + Eprint>(rt: &R, buf: &mut [u8], at: usize, row: &[u8]) -> usize
-    requires { at ≤ length buf.old }
-    ensures { result ≤ length buf.old }
-{
-    if row.len() == 0 {
-        return at;
+fn put_row<W: fmt::Write>(out: &mut W, row: &[u8]) -> fmt::Result {
+    match row {
+        [first, rest @ ..] => writeln!(out, "{first}{}", Spaced(rest)),
+        [] => Ok(()),
     }
-    let first = say::decimal(rt, buf, at, wide(row[0]));
-    let rest = say::bytes(rt, buf, first, Form::Number, &row[1..]);
-    say::newline(rt, buf, rest)
 }
 
-// A word and a number on a line of their own.
-fn put_count<R: Print + Eprint>(
-    rt: &R,
-    buf: &mut [u8],
-    at: usize,
-    word: &[u8],
-    number: u64,
-) -> usize
-    requires { at ≤ length buf.old }
-    ensures { result ≤ length buf.old }
-{
-    let counted = say::count(rt, buf, at, word, number);
-    say::newline(rt, buf, counted)
-}
-
-// The last line. `follows`: a row was found behind the last that was printed.
-fn put_last<R: Print + Eprint>(rt: &R, buf: &mut [u8], at: usize, rows: u64, follows: bool) -> usize
-    requires { at ≤ length buf.old }
-    ensures { result ≤ length buf.old }
-{
-    if follows {
-        let more = say::word(rt, buf, at, b"more");
-        return say::newline(rt, buf, more);
-    }
-    put_count(rt, buf, at, b"end", rows)
-}
-
-// Every row, up to the most that are printed, and the last line. `row` has room for the numbers of one, and no more.
-fn put_rows<R: Print + Eprint>(rt: &R, buf: &mut [u8], at: usize, t: Table, row: &mut [u8]) -> usize
-    requires { at ≤ length buf.old }
-    ensures { result ≤ length buf.old }
-{
-    let mut end = at;
+// Every row, up to the most that are printed, and the last line. `row` has room for the numbers of one, and no more. A `while`, as
+// its measure says that no list has more rows.
+fn put_rows<W: fmt::Write>(out: &mut W, t: Table, row: &mut [u8]) -> fmt::Result {
     let mut rows: u64 = 0;
-    let mut found = is_row(listing::first_row(t, row));
+    let mut found = matches!(listing::first_row(t, row), Ok(Step::Row));
+    // No `for`: the rows end where the listing does, and their count is the last line's.
     while rows < MOST_ROWS && found {
-        end = put_row(rt, buf, end, row);
-        rows += 1;
         // Nothing is searched for once a write has failed.
-        found = !text::lost(buf, end) && step(t, row);
+        put_row(out, row)?;
+        rows += 1;
+        found = step_on(t, row);
     }
     // After the last row that may be printed, too, one more was searched for: a list that ends just there is whole.
-    put_last(rt, buf, end, rows, found)
-}
-
-fn put_table<R: Print + Eprint>(rt: &R, buf: &mut [u8], t: Table) -> usize
-    ensures { result ≤ length buf.old }
-{
-    let n = t.n;
-    let start = put_count(rt, buf, 0, b"tasks", n as u64);
-    let mut row = [0u8; ROW];
-    let used = fronts::of_bytes(&row, 2 * fronts::smaller(n, MOST_TASKS));
-    put_rows(rt, buf, start, t, &mut row[..used])
-}
-
-fn put_refused<R: Print + Eprint>(rt: &R, buf: &mut [u8], r: Refusal) -> usize
-    ensures { result ≤ length buf.old }
-{
-    let said = say::refused(rt, buf, 0, r);
-    say::newline(rt, buf, said)
-}
-
-// There is room for the words of any file, so that 12 is never the answer.
-fn put_list<R: Print + Eprint>(rt: &R, buf: &mut [u8], input: &[u8]) -> usize
-    ensures { result ≤ length buf.old }
-{
-    if input.len() < PLATE_BYTES {
-        return put_refused(rt, buf, Refusal::Short);
+    if found {
+        writeln!(out, "more")
+    } else {
+        writeln!(out, "end {rows}")
     }
-    let cabinet = request::plate_cabinet(input);
-    let line = request::plate_line(input);
-    let catalogue: [u32; 0] = [];
+}
+
+fn put_table<W: fmt::Write>(out: &mut W, t: Table) -> fmt::Result {
+    let n = t.n;
+    writeln!(out, "tasks {n}")?;
+    let mut row = [0u8; ROW];
+    let used = fronts::front_len(&row, 2 * n.min(MOST_TASKS));
+    put_rows(out, t, &mut row[..used])
+}
+
+// The table of a plate and a file. There is room for the words of any file, so that 12 is never the answer.
+fn table_of(input: &[u8]) -> Result<Table, Refusal> {
+    let (plate, file) = request::plate_and_file(input).ok_or(Refusal::Short)?;
     let mut words = [0u32; MOST_WORDS];
-    let answer = reader::read(&input[PLATE_BYTES..], cabinet, line, &catalogue, &mut words);
-    let outcome = answer.outcome;
-    match outcome {
-        Outcome::Refused(r) => put_refused(rt, buf, r),
-        Outcome::Done => put_table(rt, buf, answer.table),
+    let reading = reader::read(file, plate, &[], &mut words)?;
+    Ok(reading.table)
+}
+
+fn put_list<W: fmt::Write>(out: &mut W, input: &[u8]) -> fmt::Result {
+    match table_of(input) {
+        Ok(t) => put_table(out, t),
+        Err(r) => writeln!(out, "{}", Refused(r)),
     }
 }
 
 fn main(rt: HostRuntime) {
     let mut input = [0u8; PLATE_AND_FILE];
-    let got = intake::read_whole(&mut rt.stdin(), &mut input);
-    if let Some(error) = got.failed {
-        text::fail(&rt, "standard input", error);
-        return;
+    match intake::read_whole(&mut rt.stdin(), &mut input) {
+        Ok(n) => {
+            let mut out = Out::new(&rt);
+            // Where either fails, the reason has been told.
+            let _ = put_list(&mut out, &input[..n]);
+            let _ = out.flush();
+        }
+        Err(unread) => text::fail(&rt, "standard input", unread.error),
     }
-    let n = got.bytes;
-    let mut buf = io::large_buffer();
-    let end = put_list(&rt, &mut buf, &input[..n]);
-    text::flush(&rt, &buf, end);
 }

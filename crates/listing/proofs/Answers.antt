@@ -1,29 +1,28 @@
 -- From what the search finds to what the two calls answer.
+use Rattle.std.specs.Prelude.{Err, None, Ok, Result, Some}
 use Prim.Native.Nat.{ℕ, suc, ◌+◌, ◌-◌, ◌≤◌}
 use native.Mathlib.Nat.{not-suc-le-zero}
 use native.Mathlib.Omega.{arith}
 use mathlib.Core.Path.{◌≡◌, refl, sym, ap, subst, ◌∙◌}
-use mathlib.Core.Bool.{Bool, true, false, not}
+use mathlib.Core.Bool.{true, false, not}
 use mathlib.Core.List.{List, [], ◌∷◌, ◌++◌}
-use lib.ListN.{length, take, drop, get_or, set, replicate, length-take}
+use lib.ListN.{length, length-take, take, drop, get_or, set, replicate}
 use lib.Seq.{take-suc, take-suc-set, length-take-le, take_at, drop_at}
 use Rattle.paper.specs.Numbers.{most_tasks}
 use Rattle.paper.specs.Analysis.{Tasks, tasks_of}
 use Rattle.paper.specs.Rows.{row_size, row_holds, Later, Passing, Ended}
-use Rattle.paper.specs.Refusals.{Asks, first_of, first_asks}
+use Rattle.paper.specs.Refusals.{Asks, Outcome, first_of, first_asks}
 use Rattle.paper.specs.Answers.{Lists, Says, FirstSays, NextSays}
 use Rattle.paper.specs.declared.Refusal.{Refusal}
 use Rattle.paper.specs.declared.Refusal.TheVariants.{BadRow}
 use Rattle.paper.specs.declared.Record.{Record}
 use Rattle.paper.specs.declared.Table.{Table}
-use Rattle.paper.specs.declared.Outcome.{Outcome}
-use Rattle.paper.specs.declared.Outcome.TheVariants.{Done, Refused}
-use Rattle.paper.specs.declared.RowAnswer.{RowAnswer}
-use Rattle.paper.specs.declared.RowAnswer.TheVariants as Row
+use Rattle.paper.specs.declared.Step.{Step}
+use Rattle.paper.specs.declared.Step.TheVariants.{Row, End}
 use Rattle.laws.specs.Order.{From, Within}
 use Rattle.laws.proofs.Order.{from_start, from_on, later_from, from_later_bump, within_none, within_last}
-use Rattle.columns.specs.Columns.{columns_of, tasks_by, Ranged}
-use Rattle.columns.proofs.Tables.{ranged_by, tasks-by, ranged}
+use Rattle.columns.specs.Columns.{Ranged}
+use Rattle.columns.proofs.Tables.{ranged}
 use Rattle.checks.proofs.Asks.{first_passed, first_refused}
 use Rattle.checks.proofs.Meaning.{some, few}
 use Rattle.outcomes.proofs.Meaning.{first_row_done}
@@ -44,49 +43,42 @@ module _ {t : Table} {room : ℕ} (ok : Accepted t room) where
   pub enough_room : row_size t.n ≤ room
   enough_room = (first_row_done t room ok.done).fits
 
--- The tasks in its columns are its own.
-module _ (t : Table) {ys : List ℕ} (o : (ys ≡ columns_of t.records) × (length t.records ≡ most_tasks)) where
-  same_tasks : tasks_by t.n ys ≡ tasks_of t.records t.n
-  same_tasks = rw o.0 (tasks-by t.records t.n o.1)
+-- so the analysis may run
+pub tasks_ranged : (t : Table) {room : ℕ} → Accepted t room → Ranged (tasks_of t.records t.n)
+tasks_ranged t ok = ranged t.records t.n (few_tasks ok) (first_row_done t _ ok.done).ranges
 
-  -- so the analysis may run on them
-  pub tasks_ranged : {room : ℕ} → Accepted t room → Ranged (tasks_by t.n ys)
-  tasks_ranged {room} ok = ranged_by t.records t.n o.0 o.1 (ranged t.records t.n (few_tasks ok) (first_row_done t room ok.done).ranges)
-
-  -- what a search among them finds: a row, which the digits hold,
-  module _ (q digits : List ℕ) {row : Bool} (f : Finds (tasks_by t.n ys) q row digits) where
-    found_row : row ≡ true → FirstFrom (tasks_of t.records t.n) q (take (row_size t.n) digits)
+-- What a search among its tasks finds: a row, which the digits hold,
+module _ (t : Table) {y : Tasks} (o : y ≡ tasks_of t.records t.n) where
+  module _ (q digits : List ℕ) (f : Finds y q (Some digits)) where
+    found_row : FirstFrom (tasks_of t.records t.n) q (take (row_size t.n) digits)
     unfolding Finds
-    found_row e =
-        subst (λ (y : Tasks). FirstFrom y q (take (row_size y.n) digits)) same_tasks
-        (subst (λ (b : Bool). Finds (tasks_by t.n ys) q b digits) e f)
+    found_row = subst (λ (y : Tasks). FirstFrom y q (take (row_size y.n) digits)) o f
 
-    row-size : row ≡ true → length (take (row_size t.n) digits) ≡ row_size t.n
-    row-size e = passing_size (tasks_of t.records t.n) _ (found_row e).passing
+    row-size : length (take (row_size t.n) digits) ≡ row_size t.n
+    row-size = passing_size (tasks_of t.records t.n) _ found_row.passing
 
-    pub row_inside : row ≡ true → row_size t.n ≤ length digits
-    row_inside e = omega (arith, row-size e, length-take (row_size t.n) digits)
+    pub row_inside : row_size t.n ≤ length digits
+    row_inside = omega (arith, row-size, length-take (row_size t.n) digits)
 
     -- and which is written over the front of the buffer;
-    pub row_written : (out out' : List ℕ) → row ≡ true → out' ≡ take (row_size t.n) digits ++ drop (row_size t.n) out
-        → ListsFrom (tasks_of t.records t.n) q out out' Row.Row
+    pub row_written : (out out' : List ℕ) → out' ≡ take (row_size t.n) digits ++ drop (row_size t.n) out
+        → ListsFrom (tasks_of t.records t.n) q out out' Row
     unfolding ListsFrom
-    row_written out out' e w =
+    row_written out out' w =
         let k = row_size t.n in
-        let front : take k out' ≡ take k digits = ap (λ (x : List ℕ). take k x) w ∙ take_at (take k digits) (drop k out) k (row-size e) in
-        (rw front (found_row e), ap (λ (x : List ℕ). drop k x) w ∙ drop_at (take k digits) (drop k out) k (row-size e))
+        let front : take k out' ≡ take k digits = ap (λ (x : List ℕ). take k x) w ∙ take_at (take k digits) (drop k out) k row-size in
+        (rw front found_row, ap (λ (x : List ℕ). drop k x) w ∙ drop_at (take k digits) (drop k out) k row-size)
 
-    -- or none
-    pub end_reached : (out : List ℕ) → row ≡ false → ListsFrom (tasks_of t.records t.n) q out out Row.End
-    unfolding Finds ListsFrom
-    end_reached out e =
-        (subst (λ (y : Tasks). NoneFrom y q) same_tasks (subst (λ (b : Bool). Finds (tasks_by t.n ys) q b digits) e f), refl)
+  -- or none
+  pub end_reached : (q out : List ℕ) → Finds y q None → ListsFrom (tasks_of t.records t.n) q out out End
+  unfolding Finds ListsFrom
+  end_reached q out f = (subst (λ (y : Tasks). NoneFrom y q) o f, refl)
 
 -- Where the passing rows from q on are those later than `given`, the search answers what is asked.
-lists : (y : Tasks) (given q out out' : List ℕ) (a : RowAnswer) → ((r : List ℕ) → Passing y r → Later given r → From q r)
-    → ((r : List ℕ) → Passing y r → From q r → Later given r) → ListsFrom y q out out' a → Lists y given out out' a
+lists : (y : Tasks) (given q out out' : List ℕ) (s : Step) → ((r : List ℕ) → Passing y r → Later given r → From q r)
+    → ((r : List ℕ) → Passing y r → From q r → Later given r) → ListsFrom y q out out' s → Lists y given out out' (Ok s)
 unfolding Lists ListsFrom NoneFrom Ended
-lists y given q out out' Row.Row g h l = (
+lists y given q out out' Row g h l = (
   record {
     passing = l.0.passing;
     after = h _ l.0.passing l.0.onward;
@@ -94,16 +86,15 @@ lists y given q out out' Row.Row g h l = (
   },
   l.1,
 )
-lists y given q out out' Row.End g h l = (λ r p f. l.0 r p (g r p f), l.1)
-lists y given q out out' (Row.Refused r) g h l = l
+lists y given q out out' End g h l = (λ r p f. l.0 r p (g r p f), l.1)
 
-says_done : {o : Outcome} (y : Tasks) (given out out' : List ℕ) (a : RowAnswer) → o ≡ Done → Lists y given out out' a → Says o y given out out' a
+says_done : {o : Outcome} (y : Tasks) (given out out' : List ℕ) (s : Step) → o ≡ Ok tt → Lists y given out out' (Ok s) → Says o y given out out' (Ok s)
 unfolding Says
-says_done y given out out' a e l = subst (λ (o : Outcome). Says o y given out out' a) (sym e) l
+says_done y given out out' s e l = subst (λ (o : Outcome). Says o y given out out' (Ok s)) (sym e) l
 
-says_refused : {o : Outcome} (y : Tasks) (given out : List ℕ) (r : Refusal) → o ≡ Refused r → Says o y given out out (Row.Refused r)
+says_refused : {o : Outcome} (y : Tasks) (given out : List ℕ) (r : Refusal) {a : Result Step Refusal} → o ≡ Err r → a ≡ Err r → Says o y given out out a
 unfolding Says
-says_refused y given out r e = subst (λ (o : Outcome). Says o y given out out (Row.Refused r)) (sym e) (refl, refl)
+says_refused y given out r {a} e h = subst (λ (o : Outcome). Says o y given out out a) (sym e) (h, refl)
 
 -- The first row: the search starts at the digit 1. A start at 2 would be a candidate too: that no row is skipped is said by the answer.
 pub first_begun : {t : Table} {room x : ℕ} → Accepted t room → 1 ≤ x → x ≤ 2 → Begun t.n (replicate (row_size most_tasks) x) 0
@@ -111,23 +102,24 @@ first_begun {t} ok above below =
     let l = some_tasks ok in
     record { few = few_tasks ok; inside = omega arith; size = refl; head = within_none t.n; low = omega arith; high = omega arith }
 
-pub first_refused_says : (t : Table) (out : List ℕ) (r : Refusal) → first_of (first_asks t (length out)) ≡ Refused r → FirstSays t out out (Row.Refused r)
+pub first_refused_says : (t : Table) (out : List ℕ) (r : Refusal) {a : Result Step Refusal} → first_of (first_asks t (length out)) ≡ Err r → a ≡ Err r
+    → FirstSays t out out a
 unfolding FirstSays
-first_refused_says t out r e = says_refused _ [] out r e
+first_refused_says t out r e h = says_refused _ [] out r e h
 
 later_none : (r : List ℕ) → 1 ≤ length r → Later [] r
 unfolding Later
 later_none [] l = absurd (not-suc-le-zero l)
 later_none (a ∷ r) l = tt
 
-pub first_says : (t : Table) (out out' : List ℕ) (a : RowAnswer) → Accepted t (length out)
-    → ListsFrom (tasks_of t.records t.n) (1 ∷ []) out out' a → FirstSays t out out' a
+pub first_says : (t : Table) (out out' : List ℕ) (s : Step) → Accepted t (length out)
+    → ListsFrom (tasks_of t.records t.n) (1 ∷ []) out out' s → FirstSays t out out' (Ok s)
 unfolding FirstSays
-first_says t out out' a ok l =
+first_says t out out' s ok l =
     let y = tasks_of t.records t.n in
     let n = some_tasks ok in
-    says_done y [] out out' a ok.done
-    (lists y [] (1 ∷ []) out out' a
+    says_done y [] out out' s ok.done
+    (lists y [] (1 ∷ []) out out' s
     (λ r p f. from_on t.n [] r (omega (arith, passing_size y r p)) (passing_within y r p) (from_start r))
     (λ r p f. later_none r (omega (arith, passing_size y r p)))
     l)
@@ -156,46 +148,47 @@ module _ {n : ℕ} {given l : List ℕ} (g : Loaded n given l) (some' : 1 ≤ n)
   pub next_begun : Begun n (set l (row_size n - 1) (get_or l (row_size n - 1) 0 + 1)) (row_size n - 1)
   next_begun = begun_set l (row_size n - 1) _ few' (omega arith) g.size parts.0 (omega arith) (omega (arith, last_most))
 
-  next_lists : (rs : List Record) (out out' : List ℕ) (a : RowAnswer)
-      → ListsFrom (tasks_of rs n) (take (suc (row_size n - 1)) (set l (row_size n - 1) (get_or l (row_size n - 1) 0 + 1))) out out' a
-      → Lists (tasks_of rs n) given out out' a
-  next_lists rs out out' a h =
+  next_lists : (rs : List Record) (out out' : List ℕ) (s : Step)
+      → ListsFrom (tasks_of rs n) (take (suc (row_size n - 1)) (set l (row_size n - 1) (get_or l (row_size n - 1) 0 + 1))) out out' s
+      → Lists (tasks_of rs n) given out out' (Ok s)
+  next_lists rs out out' s h =
       let y = tasks_of rs n in
       let j = row_size n - 1 in
       let x = get_or l j 0 in
       let e = take-suc-set l j (x + 1) (omega arith) in
       let m = length-take-le j l (omega arith) in
-      lists y given (take j l ++ ((x + 1) ∷ [])) out out' a
-      (λ r p f. later_from (take j l) r x (omega (arith, passing_size y r p)) (subst (λ (s : List ℕ). Later s r) split f))
-      (λ r p f. subst (λ (s : List ℕ). Later s r) (sym split) (from_later_bump (take j l) r x f))
+      lists y given (take j l ++ ((x + 1) ∷ [])) out out' s
+      (λ r p f. later_from (take j l) r x (omega (arith, passing_size y r p)) (subst (λ (g : List ℕ). Later g r) split f))
+      (λ r p f. subst (λ (g : List ℕ). Later g r) (sym split) (from_later_bump (take j l) r x f))
       (rw e at h)
 
 -- after what the first row asks comes the row asked from
 abbrev row_ask : Table → List ℕ → Asks
 row_ask t given = (BadRow, not (row_holds t.n given)) ∷ []
 
-row_good : (t : Table) (given : List ℕ) → row_holds t.n given ≡ true → first_of (row_ask t given) ≡ Done
+row_good : (t : Table) (given : List ℕ) → row_holds t.n given ≡ true → first_of (row_ask t given) ≡ Ok tt
 row_good t given e = rw e
 
-row_bad : (t : Table) (given : List ℕ) → row_holds t.n given ≡ false → first_of (row_ask t given) ≡ Refused BadRow
+row_bad : (t : Table) (given : List ℕ) → row_holds t.n given ≡ false → first_of (row_ask t given) ≡ Err BadRow
 row_bad t given e = rw e
 
-pub next_refused_says : (t : Table) (given out : List ℕ) (r : Refusal) → first_of (first_asks t (length out)) ≡ Refused r → NextSays t given out out (Row.Refused r)
+pub next_refused_says : (t : Table) (given out : List ℕ) (r : Refusal) {a : Result Step Refusal} → first_of (first_asks t (length out)) ≡ Err r → a ≡ Err r
+    → NextSays t given out out a
 unfolding NextSays
-next_refused_says t given out r e =
-    says_refused (tasks_of t.records t.n) given out r (first_refused (first_asks t (length out)) (row_ask t given) r e)
+next_refused_says t given out r e h =
+    says_refused (tasks_of t.records t.n) given out r (first_refused (first_asks t (length out)) (row_ask t given) r e) h
 
-pub bad_row_says : (t : Table) (given out : List ℕ) → Accepted t (length out) → row_holds t.n given ≡ false → NextSays t given out out (Row.Refused BadRow)
+pub bad_row_says : (t : Table) (given out : List ℕ) → Accepted t (length out) → row_holds t.n given ≡ false → NextSays t given out out (Err BadRow)
 unfolding NextSays
 bad_row_says t given out ok e =
     says_refused (tasks_of t.records t.n) given out BadRow
-    (first_passed (first_asks t (length out)) (row_ask t given) ok.done ∙ row_bad t given e)
+    (first_passed (first_asks t (length out)) (row_ask t given) ok.done ∙ row_bad t given e) refl
 
-pub next_says : (t : Table) (given l out out' : List ℕ) (a : RowAnswer) → Accepted t (length out) → Loaded t.n given l
-    → ListsFrom (tasks_of t.records t.n) (take (suc (row_size t.n - 1)) (set l (row_size t.n - 1) (get_or l (row_size t.n - 1) 0 + 1))) out out' a
-    → NextSays t given out out' a
+pub next_says : (t : Table) (given l out out' : List ℕ) (s : Step) → Accepted t (length out) → Loaded t.n given l
+    → ListsFrom (tasks_of t.records t.n) (take (suc (row_size t.n - 1)) (set l (row_size t.n - 1) (get_or l (row_size t.n - 1) 0 + 1))) out out' s
+    → NextSays t given out out' (Ok s)
 unfolding NextSays
-next_says t given l out out' a ok g h =
-    says_done (tasks_of t.records t.n) given out out' a
+next_says t given l out out' s ok g h =
+    says_done (tasks_of t.records t.n) given out out' s
     (first_passed (first_asks t (length out)) (row_ask t given) ok.done ∙ row_good t given g.holds)
-    (next_lists g (some_tasks ok) (few_tasks ok) t.records out out' a h)
+    (next_lists g (some_tasks ok) (few_tasks ok) t.records out out' s h)

@@ -6,7 +6,7 @@ ghost use Rattle.paper.specs.Refusals.{number_of};
 
 use paper::Refusal;
 
-// The paper's number.
+// The paper's number. A `From` would be a second place for it: docs/SIGNATURE.md names this call, and its edits turn these arms.
 pub fn number_of(r: Refusal) -> u64
     ensures { result ≡ number_of r }
 {

@@ -1,4 +1,5 @@
 -- What a call may count on once nothing that it asks applies.
+use Rattle.std.specs.Prelude.{Ok}
 use Prim.Native.Nat.{ℕ, ◌≤◌, ◌<◌}
 use mathlib.Core.Path.{◌≡◌}
 use mathlib.Core.Bool.{true, false}
@@ -12,7 +13,6 @@ use Rattle.paper.specs.Rows.{row_size}
 use Rattle.paper.specs.Lengths.{no_instant}
 use Rattle.paper.specs.Refusals.{first_of, times_asks, tolerances_asks, first_asks, deadline_above_period, tolerance_over_none}
 use Rattle.paper.specs.declared.Table.{Table}
-use Rattle.paper.specs.declared.Outcome.TheVariants.{Done}
 use Rattle.columns.specs.Columns.{Ranged, Placed}
 use Rattle.columns.proofs.Tables.{ranged, placed}
 use Rattle.paper.proofs.Asks.{clear, met}
@@ -28,7 +28,7 @@ pub record TimesFacts (t : Table) : Type 0 where
   pub assignment : assignment_holds t.records t.n ≡ true
   pub assigned : unassigned t.records t.n ≡ false
 
-pub times_done : (t : Table) → first_of (times_asks t) ≡ Done → TimesFacts t
+pub times_done : (t : Table) → first_of (times_asks t) ≡ Ok tt → TimesFacts t
 times_done t e =
     let c = met (tasks_in_range t.n) _ _ e in
     let r = met (records_in_range t.records t.n) _ _ c.1 in
@@ -48,7 +48,7 @@ pub record DeadlinesFacts (t : Table) : Type 0 where
   pub times : TimesFacts t
   pub deadlines : every t.n (λ k. leb (rec t.records k).deadline (rec t.records k).period) ≡ true
 
-pub deadlines_done : (t : Table) → first_of (deadlines_asks t) ≡ Done → DeadlinesFacts t
+pub deadlines_done : (t : Table) → first_of (deadlines_asks t) ≡ Ok tt → DeadlinesFacts t
 deadlines_done t e =
     let p = first_done (times_asks t) (deadline_above_period t ∷ []) e in
     record { times = times_done t p.0; deadlines = (met _ _ _ p.1).0 }
@@ -58,7 +58,7 @@ pub record TolerancesFacts (t : Table) : Type 0 where
   pub shared : DeadlinesFacts t
   pub instants : (k : ℕ) → k < t.n → no_instant (tasks_of t.records t.n) k ≡ false
 
-pub tolerances_done : (t : Table) → first_of (tolerances_asks t) ≡ Done → TolerancesFacts t
+pub tolerances_done : (t : Table) → first_of (tolerances_asks t) ≡ Ok tt → TolerancesFacts t
 tolerances_done t e =
     record { shared = deadlines_done t (first_done (deadlines_asks t) (tolerance_over_none t ∷ []) e).0; instants = answered_instants t e }
 
@@ -68,7 +68,7 @@ pub record FirstFacts (t : Table) (room : ℕ) : Type 0 where
   pub ranges : records_in_range t.records t.n ≡ true
   pub fits : row_size t.n ≤ room
 
-pub first_row_done : (t : Table) (room : ℕ) → first_of (first_asks t room) ≡ Done → FirstFacts t room
+pub first_row_done : (t : Table) (room : ℕ) → first_of (first_asks t room) ≡ Ok tt → FirstFacts t room
 first_row_done t room e =
     let c = met (tasks_in_range t.n) _ _ e in
     let r = met (records_in_range t.records t.n) _ _ c.1 in

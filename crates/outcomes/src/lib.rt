@@ -6,59 +6,50 @@ ghost use Rattle.std.specs.Prelude.{◌≡◌};
 ghost use Rattle.paper.specs.Refusals.{first_of, times_asks, first_asks};
 ghost use Rattle.outcomes.specs.Shared.{deadlines_asks};
 
-use paper::{Outcome, Refusal, Table};
+use paper::{Refusal, Table};
 
 // What response times ask, in the order asked. n comes first: the other checks look at n records.
-pub fn times_outcome(t: Table) -> Outcome
-    ensures { result ≡ first_of (times_asks t) }
+pub fn times_outcome(t: &Table) -> Result<(), Refusal>
+    ensures { result ≡ first_of (times_asks t.now) }
 {
-    let n = t.n;
-    let rs = t.records;
-    if !checks::tasks_in_range(n) {
-        return Outcome::Refused(Refusal::WrongCounts);
+    if !checks::tasks_in_range(t.n) {
+        return Err(Refusal::WrongCounts);
     }
-    if !checks::records_in_range(rs, n) {
-        return Outcome::Refused(Refusal::OutOfRange);
+    if !checks::records_in_range(t) {
+        return Err(Refusal::OutOfRange);
     }
-    if !checks::assignment_holds(rs, n) {
-        return Outcome::Refused(Refusal::BadAssignment);
+    if !checks::assignment_holds(t) {
+        return Err(Refusal::BadAssignment);
     }
-    if checks::unassigned(rs, n) {
-        return Outcome::Refused(Refusal::Unassigned);
+    if checks::unassigned(t) {
+        return Err(Refusal::Unassigned);
     }
-    Outcome::Done
+    Ok(())
 }
 
 // What tolerances and lengths ask alike: the same, and then the deadlines.
-pub fn deadlines_outcome(t: Table) -> Outcome
-    ensures { result ≡ first_of (deadlines_asks t) }
+pub fn deadlines_outcome(t: &Table) -> Result<(), Refusal>
+    ensures { result ≡ first_of (deadlines_asks t.now) }
 {
-    let outcome = times_outcome(t);
-    match outcome {
-        Outcome::Refused(r) => Outcome::Refused(r),
-        Outcome::Done => {
-            let rs = t.records;
-            if !checks::deadlines_hold(rs, t.n) {
-                return Outcome::Refused(Refusal::DeadlineAbovePeriod);
-            }
-            Outcome::Done
-        }
+    times_outcome(t)?;
+    if !checks::deadlines_hold(t) {
+        return Err(Refusal::DeadlineAbovePeriod);
     }
+    Ok(())
 }
 
 // What the first row of a listing asks.
-pub fn first_outcome(t: Table, room: usize) -> Outcome
-    ensures { result ≡ first_of (first_asks t room) }
+pub fn first_outcome(t: &Table, room: usize) -> Result<(), Refusal>
+    ensures { result ≡ first_of (first_asks t.now room) }
 {
-    let rs = t.records;
     if !checks::tasks_in_range(t.n) {
-        return Outcome::Refused(Refusal::WrongCounts);
+        return Err(Refusal::WrongCounts);
     }
-    if !checks::records_in_range(rs, t.n) {
-        return Outcome::Refused(Refusal::OutOfRange);
+    if !checks::records_in_range(t) {
+        return Err(Refusal::OutOfRange);
     }
     if room < 2 * t.n {
-        return Outcome::Refused(Refusal::NoRoom);
+        return Err(Refusal::NoRoom);
     }
-    Outcome::Done
+    Ok(())
 }

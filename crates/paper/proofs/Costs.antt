@@ -1,4 +1,5 @@
 -- C may lie above D; such a task never passes: no job finishes before it has had its own cost. Nor does one that its jitter leaves less time for.
+use Rattle.std.specs.Prelude.{None, Option, Some}
 use Prim.Native.Nat.{ℕ, ◌+◌, ◌≤◌, ◌<◌}
 use mathlib.Core.Path.{◌≡◌, refl}
 use mathlib.Core.Bool.{Bool, true, false}
@@ -8,20 +9,18 @@ use borrow.Author.Tests.{leb-true, eqb-true}
 use Rattle.paper.specs.Numbers.{Assignment}
 use Rattle.paper.specs.Analysis.{Tasks, Standing, standing, start_of, finish_sum, finish_of, finish_from, job, with_job, task_passes, passes}
 use Rattle.paper.specs.Lengths.{no_instant}
-use Rattle.paper.specs.declared.Time.{Time}
-use Rattle.paper.specs.declared.Time.TheVariants.{At, Beyond}
 use Rattle.paper.proofs.Tests.{every_fails}
 use Rattle.paper.proofs.Searched.{searched}
 use Rattle.paper.proofs.Responses.{AllInTime, level_positive, first_job, within_jobs}
 
 -- F is at least C(i)
-finish_least : (y : Tasks) (s : Standing) (i k f : ℕ) → job y s i k ≡ At f → y.c i ≤ f
+finish_least : (y : Tasks) (s : Standing) (i k f : ℕ) → job y s i k ≡ Some f → y.c i ≤ f
 unfolding job finish_from finish_of finish_sum
 finish_least y s i k f e = go (start_of y s i k) e
   where
-    go : (start : Time) → finish_from y s i start ≡ At f → y.c i ≤ f
-    go (At start) h = let z = eqb-true f _ (searched _ _ _ f h).hit in omega arith
-    go Beyond h = let z : ◌≡◌ {A = ℕ} 0 1 = cc in absurd (omega arith)
+    go : (start : Option ℕ) → finish_from y s i start ≡ Some f → y.c i ≤ f
+    go (Some start) h = let z = eqb-true f _ (searched _ _ _ f h).hit in omega arith
+    go None h = let z : ◌≡◌ {A = ℕ} 0 1 = cc in absurd (omega arith)
 
 pub no_time_left : (y : Tasks) (a : Assignment) (i : ℕ) → i < y.n → 1 ≤ y.t i → y.d i < y.c i + y.j i → passes y a ≡ false
 unfolding passes

@@ -1,4 +1,5 @@
 -- n is 1 to 15 (document 02, item 6). Every call that asks 5 refuses another number of tasks with it.
+use Rattle.std.specs.Prelude.{Err}
 use Prim.Native.Nat.{ℕ, ◌≤◌}
 use mathlib.Core.Path.{◌≡◌, refl}
 use mathlib.Core.Bool.{true, false}
@@ -12,7 +13,6 @@ use Rattle.paper.specs.Refusals.{number_of, Asks, first_of, file_asks, record_as
 use Rattle.paper.proofs.Asks.{NoneApplies}
 use Rattle.paper.specs.declared.Table.{Table}
 use Rattle.paper.specs.declared.Refusal.TheVariants.{WrongCounts}
-use Rattle.paper.specs.declared.Outcome.TheVariants.{Refused}
 
 pub tasks_taken : (n : ℕ) → 1 ≤ n → n ≤ 15 → tasks_in_range n ≡ true
 tasks_taken n a b = rw (le-leb 1 n a, le-leb n most_tasks (omega arith)) refl
@@ -39,7 +39,7 @@ asks_of_table e t own catalogue given cabinet line room number =
     regions_asks t own catalogue number ∷ []
 
 pub table_refused : (e : ℕ) (t : Table) → is_edition e ≡ true → tasks_in_range t.n ≡ false → (own catalogue given : List ℕ) (cabinet line room number : ℕ)
-    → map (λ asks. first_of asks) (asks_of_table e t own catalogue given cabinet line room number) ≡ replicate 8 (Refused WrongCounts)
+    → map (λ asks. first_of asks) (asks_of_table e t own catalogue given cabinet line room number) ≡ replicate 8 (Err WrongCounts)
 table_refused e t edition tasks own catalogue given cabinet line room number = rw (edition, tasks) refl
 
 -- what is asked of a file: by itself, to read it, to hand back a record
@@ -51,6 +51,6 @@ asks_of_file f cabinet line catalogue room number =
 pub file_refused : (f : List ℕ) (cabinet line : ℕ) (catalogue : List ℕ) (room number : ℕ)
     → NoneApplies (take 5 (file_asks f cabinet line catalogue))
     → tasks_in_range (tasks_in f) ≡ false
-    → map (λ asks. first_of asks) (asks_of_file f cabinet line catalogue room number) ≡ replicate 3 (Refused WrongCounts)
+    → map (λ asks. first_of asks) (asks_of_file f cabinet line catalogue room number) ≡ replicate 3 (Err WrongCounts)
 file_refused f cabinet line catalogue room number clear e =
     rw (clear.0, clear.1.0, clear.1.1.0, clear.1.1.1.0, clear.1.1.1.1.0, e) refl

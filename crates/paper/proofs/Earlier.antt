@@ -1,5 +1,6 @@
 -- The answers of response times, the pass test and the listing as they were defined before document 02, item 4, when no answer carried a job: what is answered today says the same.
 -- What they are made of (R, where a task stands, rows, refusals) item 4 left alone: both sides take it from specs/.
+use Rattle.std.specs.Prelude.{Err, Ok, Option, Some, Result}
 use Prim.Native.Nat.{ℕ, zero, suc, ◌-◌}
 use mathlib.Core.Path.{◌≡◌, refl, ap, ap₂, sym, ◌∙◌}
 use mathlib.Core.Bool.{Bool, true}
@@ -10,25 +11,21 @@ use Rattle.paper.specs.Vocabulary.{every, list_to}
 use Rattle.paper.specs.Numbers.{most_tasks, per_task, Assignment, assigned}
 use Rattle.paper.specs.Analysis.{Tasks, tasks_of, standing, response, with_job, within, task_passes, passes}
 use Rattle.paper.specs.Rows.{row_size, row_assignment, row_holds, Later, Passing, Ended}
-use Rattle.paper.specs.Refusals.{first_of, times_asks, first_asks, next_asks}
-use Rattle.paper.specs.Answers.{when_done, no_time, time_of, times_answer, Lists, Says, FirstSays, NextSays}
+use Rattle.paper.specs.Refusals.{first_of, times_asks, first_asks, next_asks, Outcome}
+use Rattle.paper.specs.Answers.{answered, no_time, time_of, times_answer, Lists, Says, FirstSays, NextSays}
 use Rattle.paper.specs.declared.Response.{Response}
 use Rattle.paper.specs.declared.Table.{Table}
-use Rattle.paper.specs.declared.Outcome.{Outcome}
-use Rattle.paper.specs.declared.Outcome.TheVariants.{Done, Refused}
-use Rattle.paper.specs.declared.RowAnswer.{RowAnswer}
-use Rattle.paper.specs.declared.RowAnswer.TheVariants as Row
-use Rattle.paper.specs.declared.Time.{Time}
-use Rattle.paper.specs.declared.Time.TheVariants.{At}
+use Rattle.paper.specs.declared.Refusal.{Refusal}
+use Rattle.paper.specs.declared.Step.{Step}
+use Rattle.paper.specs.declared.Step.TheVariants.{Row, End}
 
 -- for each task its R, or beyond
-abbrev pub earlier_times : Table → List Time
+abbrev pub earlier_times : Table → Result (List (Option ℕ)) Refusal
 earlier_times t =
-    when_done (first_of (times_asks t))
-    (per_task t.n (λ i. response (tasks_of t.records t.n) (standing (tasks_of t.records t.n) (assigned t.records) i) i) (At 0))
-    (replicate most_tasks (At 0))
+    answered (first_of (times_asks t))
+    (per_task t.n (λ i. response (tasks_of t.records t.n) (standing (tasks_of t.records t.n) (assigned t.records) i) i) (Some 0))
 
-abbrev time_only : Response → Time
+abbrev time_only : Response → Option ℕ
 time_only r = r.time
 
 replicate_times : (n : ℕ) (r : Response) → map time_only (replicate n r) ≡ replicate n r.time
@@ -45,15 +42,19 @@ unfolding per_task
 per_task_times n f r =
     map-append time_only (list_to n f) (replicate (most_tasks - n) r) ∙ ap₂ (λ ts us. ts ++ us) (list_times n f) (replicate_times (most_tasks - n) r)
 
--- the outcome, and every time, as they were
-pub times_stand : (t : Table) → ((times_answer t).outcome ≡ first_of (times_asks t)) × (map time_only (times_answer t).times ≡ earlier_times t)
+-- the times alone of an answer
+abbrev pub times_only : Result (List Response) Refusal → Result (List (Option ℕ)) Refusal
+times_only (Ok rs) = Ok (map time_only rs)
+times_only (Err r) = Err r
+
+-- the refusal, or every time, as they were
+pub times_stand : (t : Table) → times_only (times_answer t) ≡ earlier_times t
 unfolding with_job
-times_stand t = (refl, go (first_of (times_asks t)))
+times_stand t = go (first_of (times_asks t))
   where
-    go : (o : Outcome) → map time_only (when_done o (per_task t.n (time_of t) no_time) (replicate most_tasks no_time))
-        ≡ when_done o (per_task t.n (λ i. (time_of t i).time) (At 0)) (replicate most_tasks (At 0))
-    go Done = per_task_times t.n (time_of t) no_time
-    go (Refused r) = replicate_times most_tasks no_time
+    go : (o : Outcome) → times_only (answered o (per_task t.n (time_of t) no_time)) ≡ answered o (per_task t.n (λ i. (time_of t i).time) (Some 0))
+    go (Ok done) = ap Ok (per_task_times t.n (time_of t) no_time)
+    go (Err r) = refl
 
 -- An assignment passes when every R(i) exists and R(i) ≤ D(i)
 abbrev pub task_passed : Tasks → Assignment → ℕ → Bool
@@ -81,14 +82,14 @@ pub record NextPassed (y : Tasks) (given row : List ℕ) : Type 0 where
 abbrev pub EndedPassed : Tasks → List ℕ → Type 0
 EndedPassed y given = (r : List ℕ) → PassedRow y r → Later given r → ⊥
 
-abbrev pub ListsPassed : Tasks → List ℕ → List ℕ → List ℕ → RowAnswer → Type 0
-ListsPassed y given out out' Row.Row = NextPassed y given (take (row_size y.n) out') × (drop (row_size y.n) out' ≡ drop (row_size y.n) out)
-ListsPassed y given out out' Row.End = EndedPassed y given × (out' ≡ out)
-ListsPassed y given out out' (Row.Refused r) = ⊥
+abbrev pub ListsPassed : Tasks → List ℕ → List ℕ → List ℕ → Result Step Refusal → Type 0
+ListsPassed y given out out' (Ok Row) = NextPassed y given (take (row_size y.n) out') × (drop (row_size y.n) out' ≡ drop (row_size y.n) out)
+ListsPassed y given out out' (Ok End) = EndedPassed y given × (out' ≡ out)
+ListsPassed y given out out' (Err r) = ⊥
 
-abbrev pub SaysPassed : Outcome → Tasks → List ℕ → List ℕ → List ℕ → RowAnswer → Type 0
-SaysPassed Done y given out out' answer = ListsPassed y given out out' answer
-SaysPassed (Refused r) y given out out' answer = (answer ≡ Row.Refused r) × (out' ≡ out)
+abbrev pub SaysPassed : Outcome → Tasks → List ℕ → List ℕ → List ℕ → Result Step Refusal → Type 0
+SaysPassed (Ok done) y given out out' answer = ListsPassed y given out out' answer
+SaysPassed (Err r) y given out out' answer = (answer ≡ Err r) × (out' ≡ out)
 
 module _ (y : Tasks) where
   was_passing : (row : List ℕ) → Passing y row → PassedRow y row
@@ -97,27 +98,27 @@ module _ (y : Tasks) where
   is_passing : (row : List ℕ) → PassedRow y row → Passing y row
   is_passing row p = record { form = p.form; pass = passes_stand y (row_assignment y.n row) ∙ p.pass }
 
-  lists_stand : (given out out' : List ℕ) (answer : RowAnswer) → Lists y given out out' answer ↔ ListsPassed y given out out' answer
+  lists_stand : (given out out' : List ℕ) (answer : Result Step Refusal) → Lists y given out out' answer ↔ ListsPassed y given out out' answer
   unfolding Lists Ended
-  lists_stand given out out' Row.Row = (
+  lists_stand given out out' (Ok Row) = (
     λ v. (record { passing = was_passing _ v.0.passing; after = v.0.after; first = λ r p. v.0.first r (is_passing r p) }, v.1),
     λ v. (record { passing = is_passing _ v.0.passing; after = v.0.after; first = λ r p. v.0.first r (was_passing r p) }, v.1),
   )
-  lists_stand given out out' Row.End = (λ v. (λ r p. v.0 r (is_passing r p), v.1), λ v. (λ r p. v.0 r (was_passing r p), v.1))
-  lists_stand given out out' (Row.Refused r) = (λ v. v, λ v. v)
+  lists_stand given out out' (Ok End) = (λ v. (λ r p. v.0 r (is_passing r p), v.1), λ v. (λ r p. v.0 r (was_passing r p), v.1))
+  lists_stand given out out' (Err r) = (λ v. v, λ v. v)
 
-  says_stand : (o : Outcome) (given out out' : List ℕ) (answer : RowAnswer) → Says o y given out out' answer ↔ SaysPassed o y given out out' answer
+  says_stand : (o : Outcome) (given out out' : List ℕ) (answer : Result Step Refusal) → Says o y given out out' answer ↔ SaysPassed o y given out out' answer
   unfolding Says
-  says_stand Done given out out' answer = lists_stand given out out' answer
-  says_stand (Refused r) given out out' answer = (λ v. v, λ v. v)
+  says_stand (Ok done) given out out' answer = lists_stand given out out' answer
+  says_stand (Err r) given out out' answer = (λ v. v, λ v. v)
 
 -- what the listing answers, and what its buffer holds, from the start and from a given row
-pub first_stands : (t : Table) (out out' : List ℕ) (answer : RowAnswer)
+pub first_stands : (t : Table) (out out' : List ℕ) (answer : Result Step Refusal)
     → FirstSays t out out' answer ↔ SaysPassed (first_of (first_asks t (length out))) (tasks_of t.records t.n) [] out out' answer
 unfolding FirstSays
 first_stands t out out' answer = says_stand _ _ [] out out' answer
 
-pub next_stands : (t : Table) (given out out' : List ℕ) (answer : RowAnswer)
+pub next_stands : (t : Table) (given out out' : List ℕ) (answer : Result Step Refusal)
     → NextSays t given out out' answer ↔ SaysPassed (first_of (next_asks t given (length out))) (tasks_of t.records t.n) given out out' answer
 unfolding NextSays
 next_stands t given out out' answer = says_stand _ _ given out out' answer

@@ -1,4 +1,5 @@
 -- The editions of the file (document 02, item 9): which there are, that 2 is for every other number, what the writer asks of the one that it is told, that 6 reads it, and a record of each as it is handed back.
+use Rattle.std.specs.Prelude.{Err}
 use Prim.Native.Nat.{ℕ, ◌+◌, ◌-◌, ◌*◌}
 use mathlib.Core.Path.{◌≡◌, refl}
 use mathlib.Core.Bool.{Bool, true, false, cond}
@@ -13,7 +14,6 @@ use Rattle.paper.specs.Refusals.{number_of, first_of, file_asks, write_asks}
 use Rattle.paper.specs.Answers.{write_outcome}
 use Rattle.paper.specs.declared.Table.{Table}
 use Rattle.paper.specs.declared.Refusal.TheVariants.{WrongEdition, WrongLength}
-use Rattle.paper.specs.declared.Outcome.TheVariants.{Refused}
 use Rattle.paper.proofs.Asks.{NoneApplies}
 use Rattle.paper.proofs.Counts.{asks_of_file}
 
@@ -45,7 +45,7 @@ in_either P e {one} {two} p q = go (eqb e 2)
 
 module _ (e : ℕ) (t : Table) (cabinet line : ℕ) (own catalogue : List ℕ) (room : ℕ) where
   -- a number but 1 and 2 is refused with 2 first, whatever is told beside it
-  pub edition_refused : (e ≡ 1 → ⊥) → (e ≡ 2 → ⊥) → write_outcome e t cabinet line own catalogue room ≡ Refused WrongEdition
+  pub edition_refused : (e ≡ 1 → ⊥) → (e ≡ 2 → ⊥) → write_outcome e t cabinet line own catalogue room ≡ Err WrongEdition
   edition_refused one two = rw (no_edition e one two) refl
 
   -- 19 is of edition 1 alone: elsewhere all is as if it were not asked
@@ -56,7 +56,7 @@ module _ (e : ℕ) (t : Table) (cabinet line : ℕ) (own catalogue : List ℕ) (
 pub length_refused : (f : List ℕ) (cabinet line : ℕ) (catalogue : List ℕ) (room number : ℕ)
     → NoneApplies (take 6 (file_asks f cabinet line catalogue))
     → (length f ≡ file_length (edition_in f) (tasks_in f) (words_in f) → ⊥)
-    → map (λ asks. first_of asks) (asks_of_file f cabinet line catalogue room number) ≡ replicate 3 (Refused WrongLength)
+    → map (λ asks. first_of asks) (asks_of_file f cabinet line catalogue room number) ≡ replicate 3 (Err WrongLength)
 length_refused f cabinet line catalogue room number clear other =
     rw (
       clear.0,

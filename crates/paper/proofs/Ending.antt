@@ -1,4 +1,5 @@
 -- Asking comes to an end, from the start and from any well-formed row; and the end is answered exactly when no passing row is left.
+use Rattle.std.specs.Prelude.{Ok, Result, Err}
 use Prim.{Unit, tt}
 use Prim.Native.Nat.{ℕ, suc, ◌≤◌, zero-le, suc-le-suc}
 use native.Mathlib.Nat.{le_refl}
@@ -13,13 +14,12 @@ use borrow.Author.Tests.{le-ltb}
 use Rattle.paper.specs.Analysis.{Tasks, tasks_of}
 use Rattle.paper.specs.Rows.{row_size, row_holds, Later, Passing, Next, Ended}
 use Rattle.paper.specs.Figures.{passing_rows}
-use Rattle.paper.specs.Refusals.{first_of, first_asks, next_asks}
+use Rattle.paper.specs.Refusals.{first_of, first_asks, next_asks, Outcome}
 use Rattle.paper.specs.Answers.{Lists, Says, FirstSays, NextSays}
 use Rattle.paper.specs.declared.Table.{Table}
-use Rattle.paper.specs.declared.Outcome.{Outcome}
-use Rattle.paper.specs.declared.Outcome.TheVariants.{Done}
-use Rattle.paper.specs.declared.RowAnswer.{RowAnswer}
-use Rattle.paper.specs.declared.RowAnswer.TheVariants as Row
+use Rattle.paper.specs.declared.Refusal.{Refusal}
+use Rattle.paper.specs.declared.Step.{Step}
+use Rattle.paper.specs.declared.Step.TheVariants.{Row, End}
 use Rattle.paper.proofs.Asks.{done_none, none_done}
 use Rattle.paper.proofs.Rows.{later_transitive, later_or_same, next_one, next_or_ended}
 use Rattle.paper.proofs.Formed.{formed}
@@ -31,13 +31,13 @@ abbrev zeros : ℕ → List ℕ
 zeros n = replicate (row_size n) 0
 
 -- A call that is not turned away there may answer with the next row, or with the end.
-module _ (ask : ℕ → Outcome) (y : Tasks) (given : List ℕ) (done : ask (row_size y.n) ≡ Done) where
-  done_says : (out' : List ℕ) (answer : RowAnswer) → Lists y given (zeros y.n) out' answer
+module _ (ask : ℕ → Outcome) (y : Tasks) (given : List ℕ) (done : ask (row_size y.n) ≡ Ok tt) where
+  done_says : (out' : List ℕ) (answer : Result Step Refusal) → Lists y given (zeros y.n) out' answer
       → Says (ask (length (zeros y.n))) y given (zeros y.n) out' answer
   unfolding Says
   done_says out' answer h = rw (length-replicate {A = ℕ}, done) h
 
-  gave_row : (row : List ℕ) → Next y given row → Gave (λ out out'. Says (ask (length out)) y given out out' Row.Row) (row_size y.n) row
+  gave_row : (row : List ℕ) → Next y given row → Gave (λ out out'. Says (ask (length out)) y given out out' (Ok Row)) (row_size y.n) row
   unfolding Lists
   gave_row row h =
       let size : length row ≡ row_size y.n = (formed y.n row h.passing.form).size in
@@ -45,16 +45,16 @@ module _ (ask : ℕ → Outcome) (y : Tasks) (given : List ℕ) (done : ask (row
       record {
         before = zeros y.n;
         after = row;
-        said = done_says row Row.Row (rw wrote h, past row size ∙ sym (past (zeros y.n) (length-replicate (row_size y.n) 0)));
+        said = done_says row (Ok Row) (rw wrote h, past row size ∙ sym (past (zeros y.n) (length-replicate (row_size y.n) 0)));
         wrote = wrote;
       }
     where
       past : (l : List ℕ) → length l ≡ row_size y.n → drop (row_size y.n) l ≡ []
       past l e = drop_of_length-le l {i = row_size y.n} (omega arith)
 
-  gave_end : Ended y given → GaveEnd (λ out out'. Says (ask (length out)) y given out out' Row.End)
+  gave_end : Ended y given → GaveEnd (λ out out'. Says (ask (length out)) y given out out' (Ok End))
   unfolding Lists
-  gave_end h = record { before = zeros y.n; after = zeros y.n; said = done_says (zeros y.n) Row.End (h, refl) }
+  gave_end h = record { before = zeros y.n; after = zeros y.n; said = done_says (zeros y.n) (Ok End) (h, refl) }
 
 -- What is left of these rows after the first few.
 pub record Rest (holds : List (List ℕ) → Type 0) (rows : List (List ℕ)) : Type 0 where
@@ -84,15 +84,15 @@ chain_rest y start given (row ∷ rows) l chain =
     beyond rest = record { gone = suc rest.gone; left = rest.left }
 
 -- For every table that is not turned away:
-module _ (t : Table) (room : ℕ) (done : first_of (first_asks t room) ≡ Done) where
+module _ (t : Table) (room : ℕ) (done : first_of (first_asks t room) ≡ Ok tt) where
   -- only 12 asks for room, so with the room for a row nothing else changes,
-  first_done : first_of (first_asks t (row_size t.n)) ≡ Done
+  first_done : first_of (first_asks t (row_size t.n)) ≡ Ok tt
   first_done =
       let h = done_none (first_asks t room) done in
       none_done (first_asks t (row_size t.n)) (h.0, (h.1.0, (le-ltb (row_size t.n) (row_size t.n) (le_refl _), tt)))
 
   -- and 17 is not given for a well-formed row;
-  next_done : (given : List ℕ) → row_holds t.n given ≡ true → first_of (next_asks t given (row_size t.n)) ≡ Done
+  next_done : (given : List ℕ) → row_holds t.n given ≡ true → first_of (next_asks t given (row_size t.n)) ≡ Ok tt
   next_done given holds =
       let h = done_none (first_asks t (row_size t.n)) first_done in
       none_done (next_asks t given (row_size t.n)) (h.0, (h.1.0, (h.1.1.0, (rw holds, tt))))
@@ -133,12 +133,12 @@ module _ (t : Table) (room : ℕ) (done : first_of (first_asks t room) ≡ Done)
 -- Asked after `given`, and again after each row that came, the listing has given these rows so far.
 unfoldable pub CameAfter : Table → List ℕ → List (List ℕ) → Type 0
 CameAfter t given [] = Unit {0}
-CameAfter t given (row ∷ rows) = Gave (λ out out'. NextSays t given out out' Row.Row) (row_size t.n) row × CameAfter t row rows
+CameAfter t given (row ∷ rows) = Gave (λ out out'. NextSays t given out out' (Ok Row)) (row_size t.n) row × CameAfter t row rows
 
 -- The same, asked from the start.
 unfoldable pub Came : Table → List (List ℕ) → Type 0
 Came t [] = Unit {0}
-Came t (row ∷ rows) = Gave (λ out out'. FirstSays t out out' Row.Row) (row_size t.n) row × CameAfter t row rows
+Came t (row ∷ rows) = Gave (λ out out'. FirstSays t out out' (Ok Row)) (row_size t.n) row × CameAfter t row rows
 
 -- The rows are the first ones of all these.
 pub record Front (rows all : List (List ℕ)) : Type 0 where
@@ -172,20 +172,20 @@ listing_front t (row ∷ rows) all came g =
 pub listing_front_after : (t : Table) (given : List ℕ) (rows all : List (List ℕ)) → CameAfter t given rows → GivesAfter t given all → Front rows all
 listing_front_after t given rows all came g = after_front t given rows all came (after_chain t given all g)
 
-says_end : (o : Outcome) (y : Tasks) (given out out' : List ℕ) (answer : RowAnswer) → o ≡ Done → Says o y given out out' answer
-    → (answer ≡ Row.End → Ended y given) × (Ended y given → answer ≡ Row.End)
+says_end : (o : Outcome) (y : Tasks) (given out out' : List ℕ) (answer : Result Step Refusal) → o ≡ Ok tt → Says o y given out out' answer
+    → (answer ≡ Ok End → Ended y given) × (Ended y given → answer ≡ Ok End)
 unfolding Says Lists
 says_end o y given out out' answer done s = go answer (rw done at s)
   where
-    go : (a : RowAnswer) → Lists y given out out' a → (a ≡ Row.End → Ended y given) × (Ended y given → a ≡ Row.End)
-    go Row.Row h = (λ e. absurd (let z : ◌≡◌ {A = ℕ} 0 1 = cc e in omega arith), λ ended. absurd (next_or_ended y given _ h.0 ended))
-    go Row.End h = (λ e. h.0, λ ended. refl)
-    go (Row.Refused r) h = absurd h
+    go : (a : Result Step Refusal) → Lists y given out out' a → (a ≡ Ok End → Ended y given) × (Ended y given → a ≡ Ok End)
+    go (Ok Row) h = (λ e. absurd (let z : ◌≡◌ {A = ℕ} 0 1 = cc e in omega arith), λ ended. absurd (next_or_ended y given _ h.0 ended))
+    go (Ok End) h = (λ e. h.0, λ ended. refl)
+    go (Err r) h = absurd h
 
 -- A call from a row that is not turned away answers the end exactly when no passing row is later.
-pub next_end : (t : Table) (given out out' : List ℕ) (answer : RowAnswer)
-    → first_of (next_asks t given (length out)) ≡ Done → NextSays t given out out' answer
-    → (answer ≡ Row.End → Ended (tasks_of t.records t.n) given) × (Ended (tasks_of t.records t.n) given → answer ≡ Row.End)
+pub next_end : (t : Table) (given out out' : List ℕ) (answer : Result Step Refusal)
+    → first_of (next_asks t given (length out)) ≡ Ok tt → NextSays t given out out' answer
+    → (answer ≡ Ok End → Ended (tasks_of t.records t.n) given) × (Ended (tasks_of t.records t.n) given → answer ≡ Ok End)
 unfolding NextSays
 next_end t given out out' answer done s = says_end _ _ given out out' answer done s
 
@@ -194,9 +194,9 @@ abbrev pub NonePasses : Tasks → Type 0
 NonePasses y = (row : List ℕ) → Passing y row → ⊥
 
 -- A call for the first row that is not turned away answers the end exactly when no row passes.
-pub first_end : (t : Table) (out out' : List ℕ) (answer : RowAnswer)
-    → first_of (first_asks t (length out)) ≡ Done → FirstSays t out out' answer
-    → (answer ≡ Row.End → NonePasses (tasks_of t.records t.n)) × (NonePasses (tasks_of t.records t.n) → answer ≡ Row.End)
+pub first_end : (t : Table) (out out' : List ℕ) (answer : Result Step Refusal)
+    → first_of (first_asks t (length out)) ≡ Ok tt → FirstSays t out out' answer
+    → (answer ≡ Ok End → NonePasses (tasks_of t.records t.n)) × (NonePasses (tasks_of t.records t.n) → answer ≡ Ok End)
 unfolding FirstSays Ended
 first_end t out out' answer done s =
     let h = says_end _ _ [] out out' answer done s in

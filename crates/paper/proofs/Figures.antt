@@ -3,6 +3,7 @@
 use mathlib.Core.Path.{◌≡◌, refl}
 use mathlib.Core.Bool.{true, false}
 use mathlib.Core.List.{List, [], ◌∷◌, map}
+use Rattle.std.specs.Prelude.{Ok}
 use Rattle.paper.specs.Vocabulary.{every, some, list_to, lowest, sum_to, max_to}
 use Rattle.paper.specs.Numbers.{per_task, each_once, thresholds_hold}
 use Rattle.paper.specs.Seal.{seal_bit, seal_bits, seal_byte, seal_from, seal_of}
@@ -11,9 +12,9 @@ use Rattle.paper.specs.Analysis.{least, before, by, load, blocks, blocking, stan
 use Rattle.paper.specs.Lengths.{larger, smaller, largest, slack, tolerance, no_instant, lowest_no_instant, lowest_below_zero, least_of, allowed, length_of, regions_fit, all_fit}
 use Rattle.paper.specs.Points.{alpha, before_last, has_time, points_pass}
 use Rattle.paper.specs.Rows.{place_of, row_assignment, row_holds}
-use Rattle.paper.specs.Answers.{fit_answer, points_answer, verdict_for}
+use Rattle.paper.specs.Answers.{fit_answer, points_answer}
 use Rattle.paper.specs.Figures.{Figure, Came, comes_out, figures, numbered, join, those, passing_rows, points, point_words}
-use Rattle.paper.specs.declared.FitAnswer.TheVariants as Fit
+use Rattle.paper.specs.declared.Shown.TheVariants.{NotShown, Passes}
 
 abbrev came_out : List Figure → List Came
 came_out fs = map (λ f. comes_out f.asked) fs
@@ -27,8 +28,8 @@ unfolding every some list_to lowest sum_to max_to per_task each_once thresholds_
 figures_hold = refl
 
 -- Fixed preemption points let regions be longer than the region check does: the regions of this table don't fit, and all its tasks pass.
-pub points_beyond_lengths : (fit_answer (points 5 0 0) (point_words 5) [] ≡ Fit.Unfit)
-    × ((points_answer (points 5 0 0) (point_words 5) []).tasks ≡ per_task 3 (λ _. verdict_for true) (verdict_for false))
+pub points_beyond_lengths : (fit_answer (points 5 0 0) (point_words 5) [] ≡ Ok false)
+    × (points_answer (points 5 0 0) (point_words 5) [] ≡ Ok (per_task 3 (λ _. Passes) NotShown))
 unfolding every some list_to lowest sum_to max_to per_task each_once thresholds_hold regions_hold all_regions_hold before load larger smaller largest slack tolerance no_instant lowest_below_zero least_of allowed length_of regions_fit all_fit alpha before_last has_time points_pass
 points_beyond_lengths = (refl, refl)
 

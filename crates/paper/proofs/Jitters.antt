@@ -1,4 +1,5 @@
 -- Release jitter in a table (document 02, item 8). J is 0 to T − 1, and another value is refused with 9 by every call that asks it; 19 is for a J that edition 1 has no place for, asked between 11 and 12 when writing edition 1, and of it alone (item 9). 16 of a task with no t stands in Lengths.antt; where the tolerances answer there is none.
+use Rattle.std.specs.Prelude.{Err, Ok}
 use Prim.Native.Nat.{ℕ, ◌≤◌, ◌<◌}
 use mathlib.Core.Path.{◌≡◌, refl, ap}
 use mathlib.Core.Bool.{true, false, not, and-false}
@@ -18,7 +19,6 @@ use Rattle.paper.specs.Answers.{write_outcome}
 use Rattle.paper.specs.declared.Record.{Record}
 use Rattle.paper.specs.declared.Table.{Table}
 use Rattle.paper.specs.declared.Refusal.TheVariants.{OutOfRange, JitterInEditionOne}
-use Rattle.paper.specs.declared.Outcome.TheVariants.{Done, Refused}
 use Rattle.paper.proofs.Tests.{never, both, every_says, every_all, every_fails}
 use Rattle.paper.proofs.Asks.{NoneApplies, done_none}
 use Rattle.paper.proofs.Lengths.{none_zero}
@@ -51,7 +51,7 @@ asks_of_range e t own catalogue given cabinet line room =
 pub range_refused : (e : ℕ) (t : Table) (own catalogue given : List ℕ) (cabinet line room : ℕ)
     → is_edition e ≡ true → counts_in_range t.n (length own) ≡ true → blank cabinet line ≡ false
     → (k : ℕ) → k < t.n → (rec t.records k).period ≤ (rec t.records k).jitter
-    → map (λ asks. first_of asks) (asks_of_range e t own catalogue given cabinet line room) ≡ replicate 7 (Refused OutOfRange)
+    → map (λ asks. first_of asks) (asks_of_range e t own catalogue given cabinet line room) ≡ replicate 7 (Err OutOfRange)
 range_refused e t own catalogue given cabinet line room edition counts plate k l h =
     let both-counts = both (tasks_in_range t.n) (leb (length own) most_words) counts in
     let outside = every_fails t.n (λ j. record_in_range (rec t.records j)) k l (jitter_outside (rec t.records k) h) in
@@ -74,12 +74,12 @@ module _ (t : Table) (cabinet line : ℕ) (own catalogue : List ℕ) (room : ℕ
   -- written as edition 1, a table of which 2, 5, 18, 9, 10 and 11 say nothing is refused with 19 where some J isn't 0, whatever the room
   pub jitter_refused : NoneApplies (take 6 (write_asks 1 t cabinet line own catalogue room))
       → (k : ℕ) → k < t.n → ((rec t.records k).jitter ≡ 0 → ⊥)
-      → write_outcome 1 t cabinet line own catalogue room ≡ Refused JitterInEditionOne
+      → write_outcome 1 t cabinet line own catalogue room ≡ Err JitterInEditionOne
   jitter_refused clear k l h =
       rw (clear.1.0, clear.1.1.0, clear.1.1.1.0, clear.1.1.1.1.0, clear.1.1.1.1.1.0, some_jitter t.records t.n k l h) refl
 
   -- and what is written has none
-  pub written_still : write_outcome 1 t cabinet line own catalogue room ≡ Done → (k : ℕ) → k < t.n → (rec t.records k).jitter ≡ 0
+  pub written_still : write_outcome 1 t cabinet line own catalogue room ≡ Ok tt → (k : ℕ) → k < t.n → (rec t.records k).jitter ≡ 0
   written_still e = no_jitter t.records t.n (write_says 1 t cabinet line own catalogue room e).unjittered
 
 -- so the edition that a table is written as has a place for each J
@@ -92,7 +92,7 @@ jitter_kept e t cabinet line own catalogue room w k l = go (edition_says e w.edi
     go (inr h) = rw h
 
 -- where the call of tolerances answers, each task has a t
-pub answered_instants : (t : Table) → first_of (tolerances_asks t) ≡ Done → (k : ℕ) → k < t.n → no_instant (tasks_of t.records t.n) k ≡ false
+pub answered_instants : (t : Table) → first_of (tolerances_asks t) ≡ Ok tt → (k : ℕ) → k < t.n → no_instant (tasks_of t.records t.n) k ≡ false
 answered_instants t e =
     let y = tasks_of t.records t.n in
     (none_zero y).0 (omega (arith, ltb-false 0 (lowest_no_instant y) (done_none (tolerances_asks t) e).1.1.1.1.1.0))

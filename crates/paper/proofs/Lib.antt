@@ -8,7 +8,7 @@ pub mod Responses
 pub mod Earlier
 pub mod Lengths
 pub mod Points
-pub mod Reading
+pub mod Loading
 pub mod Rows
 pub mod Formed
 pub mod Listing

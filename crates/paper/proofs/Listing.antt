@@ -1,4 +1,5 @@
 -- What a caller gets who asks for the first row, or from a row, and again after each row that comes, until the end: every passing row from there on, in order, each once.
+use Rattle.std.specs.Prelude.{Err, Ok}
 use Prim.Native.Nat.{ℕ, zero, suc, ◌<◌, ◌≤◌, zero-le, suc-le-suc}
 use native.Mathlib.Nat.{not-suc-le-zero, le_of_suc-le-suc}
 use native.Mathlib.Omega.{arith}
@@ -10,12 +11,10 @@ use lib.ListN.{length, take, get_or}
 use Rattle.paper.specs.Numbers.{most_tasks, tasks_in_range}
 use Rattle.paper.specs.Analysis.{Tasks, tasks_of}
 use Rattle.paper.specs.Rows.{row_size, row_holds, Later, Passing, Next, Ended}
-use Rattle.paper.specs.Refusals.{first_of, first_asks}
+use Rattle.paper.specs.Refusals.{first_of, first_asks, Outcome}
 use Rattle.paper.specs.Answers.{Lists, Says, FirstSays, NextSays}
 use Rattle.paper.specs.declared.Table.{Table}
-use Rattle.paper.specs.declared.Outcome.{Outcome}
-use Rattle.paper.specs.declared.Outcome.TheVariants.{Done, Refused}
-use Rattle.paper.specs.declared.RowAnswer.TheVariants as Row
+use Rattle.paper.specs.declared.Step.TheVariants.{Row, End}
 use Rattle.paper.proofs.Tests.{within}
 use Rattle.paper.proofs.Asks.{met}
 use Rattle.paper.proofs.Formed.{formed}
@@ -36,13 +35,13 @@ pub record GaveEnd (says : List ℕ → List ℕ → Type 0) : Type 0 where
 
 -- Asked after `given`, and again after each row that came, the listing gives these rows and then the end. Each call may have a buffer of its own.
 unfoldable pub GivesAfter : Table → List ℕ → List (List ℕ) → Type 0
-GivesAfter t given [] = GaveEnd (λ out out'. NextSays t given out out' Row.End)
-GivesAfter t given (row ∷ rows) = Gave (λ out out'. NextSays t given out out' Row.Row) (row_size t.n) row × GivesAfter t row rows
+GivesAfter t given [] = GaveEnd (λ out out'. NextSays t given out out' (Ok End))
+GivesAfter t given (row ∷ rows) = Gave (λ out out'. NextSays t given out out' (Ok Row)) (row_size t.n) row × GivesAfter t row rows
 
 -- The same, asked from the start.
 unfoldable pub Gives : Table → List (List ℕ) → Type 0
-Gives t [] = GaveEnd (λ out out'. FirstSays t out out' Row.End)
-Gives t (row ∷ rows) = Gave (λ out out'. FirstSays t out out' Row.Row) (row_size t.n) row × GivesAfter t row rows
+Gives t [] = GaveEnd (λ out out'. FirstSays t out out' (Ok End))
+Gives t (row ∷ rows) = Gave (λ out out'. FirstSays t out out' (Ok Row)) (row_size t.n) row × GivesAfter t row rows
 
 -- A row stands somewhere in a list of rows.
 pub record Among (row : List ℕ) (rows : List (List ℕ)) : Type 0 where
@@ -115,23 +114,23 @@ module _ (y : Tasks) where
       cc
 
 -- A call that answered with a row or with the end was not turned away, and what it says of the row or of the end holds.
-row_said : (o : Outcome) (y : Tasks) (given out out' : List ℕ) → Says o y given out out' Row.Row → (o ≡ Done) × Next y given (take (row_size y.n) out')
+row_said : (o : Outcome) (y : Tasks) (given out out' : List ℕ) → Says o y given out out' (Ok Row) → (o ≡ Ok tt) × Next y given (take (row_size y.n) out')
 unfolding Says Lists
-row_said Done y given out out' s = (refl, s.0)
-row_said (Refused r) y given out out' s = absurd (let z : ◌≡◌ {A = ℕ} 0 1 = cc s.0 in omega arith)
+row_said (Ok done) y given out out' s = (refl, s.0)
+row_said (Err r) y given out out' s = absurd (let z : ◌≡◌ {A = ℕ} 0 1 = cc s.0 in omega arith)
 
-end_said : (o : Outcome) (y : Tasks) (given out out' : List ℕ) → Says o y given out out' Row.End → (o ≡ Done) × Ended y given
+end_said : (o : Outcome) (y : Tasks) (given out out' : List ℕ) → Says o y given out out' (Ok End) → (o ≡ Ok tt) × Ended y given
 unfolding Says Lists
-end_said Done y given out out' s = (refl, s.0)
-end_said (Refused r) y given out out' s = absurd (let z : ◌≡◌ {A = ℕ} 0 1 = cc s.0 in omega arith)
+end_said (Ok done) y given out out' s = (refl, s.0)
+end_said (Err r) y given out out' s = absurd (let z : ◌≡◌ {A = ℕ} 0 1 = cc s.0 in omega arith)
 
 -- So what the calls answered is a chain.
 module _ (t : Table) where
-  pub next_gave : (given row : List ℕ) → Gave (λ out out'. NextSays t given out out' Row.Row) (row_size t.n) row → Next (tasks_of t.records t.n) given row
+  pub next_gave : (given row : List ℕ) → Gave (λ out out'. NextSays t given out out' (Ok Row)) (row_size t.n) row → Next (tasks_of t.records t.n) given row
   unfolding NextSays
   next_gave given row g = rw g.wrote at (row_said _ _ given _ _ g.said).1
 
-  pub first_gave : (row : List ℕ) → Gave (λ out out'. FirstSays t out out' Row.Row) (row_size t.n) row → Next (tasks_of t.records t.n) [] row
+  pub first_gave : (row : List ℕ) → Gave (λ out out'. FirstSays t out out' (Ok Row)) (row_size t.n) row → Next (tasks_of t.records t.n) [] row
   unfolding FirstSays
   first_gave row g = rw g.wrote at (row_said _ _ [] _ _ g.said).1
 
@@ -146,7 +145,7 @@ module _ (t : Table) where
   start_chain (row ∷ rows) g = (first_gave row g.0, after_chain row rows g.1)
 
 -- A table that is not turned away has a task, so that no row is empty:
-pub some_task : (t : Table) (room : ℕ) → first_of (first_asks t room) ≡ Done → 1 ≤ t.n
+pub some_task : (t : Table) (room : ℕ) → first_of (first_asks t room) ≡ Ok tt → 1 ≤ t.n
 some_task t room e = (within 1 most_tasks t.n (met (tasks_in_range t.n) _ _ e).0).0
 
 started : (t : Table) (rows : List (List ℕ)) → Gives t rows → 1 ≤ t.n

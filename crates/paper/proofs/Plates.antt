@@ -1,4 +1,5 @@
 -- Blank plates (document 02, item 1). Cabinet 0 or line 0, in the file or on the plate, is refused with 18, whatever is wrong behind it: straight after 2 when reading, straight after 5 when writing.
+use Rattle.std.specs.Prelude.{Err}
 use Prim.Native.Nat.{ℕ, ◌≤◌, ◌<◌}
 use mathlib.Core.Path.{◌≡◌, refl}
 use mathlib.Core.Bool.{true, false, ◌||◌, or-true}
@@ -17,7 +18,6 @@ use Rattle.paper.proofs.Counts.{asks_of_file}
 use Rattle.paper.proofs.Editions.{no_edition}
 use Rattle.paper.specs.declared.Table.{Table}
 use Rattle.paper.specs.declared.Refusal.TheVariants.{Short, WrongEdition, WrongCounts, BlankPlate}
-use Rattle.paper.specs.declared.Outcome.TheVariants.{Refused}
 
 pub with_18 : number_of BlankPlate ≡ 18
 with_18 = refl
@@ -40,17 +40,17 @@ zero_blank cabinet line (inr e) = rw (eq-eqb line 0 e) (or-true (eqb cabinet 0))
 module _ (f : List ℕ) (cabinet line : ℕ) (catalogue : List ℕ) (room number : ℕ) where
   -- 1 and 2 come first on any plate, a blank one too
   pub short_first : length f < shortest
-      → map (λ asks. first_of asks) (asks_of_file f cabinet line catalogue room number) ≡ replicate 3 (Refused Short)
+      → map (λ asks. first_of asks) (asks_of_file f cabinet line catalogue room number) ≡ replicate 3 (Err Short)
   short_first h = rw (lt-ltb (length f) shortest h) refl
 
   pub edition_first : shortest ≤ length f → (edition_in f ≡ 1 → ⊥) → (edition_in f ≡ 2 → ⊥)
-      → map (λ asks. first_of asks) (asks_of_file f cabinet line catalogue room number) ≡ replicate 3 (Refused WrongEdition)
+      → map (λ asks. first_of asks) (asks_of_file f cabinet line catalogue room number) ≡ replicate 3 (Err WrongEdition)
   edition_first h one two = rw (le-ltb (length f) shortest h, no_edition (edition_in f) one two) refl
 
   -- then a zero in the file or on the plate
   pub file_refused : shortest ≤ length f → is_edition (edition_in f) ≡ true
       → ((cabinet_in f ≡ 0) ⊎ (line_in f ≡ 0)) ⊎ ((cabinet ≡ 0) ⊎ (line ≡ 0))
-      → map (λ asks. first_of asks) (asks_of_file f cabinet line catalogue room number) ≡ replicate 3 (Refused BlankPlate)
+      → map (λ asks. first_of asks) (asks_of_file f cabinet line catalogue room number) ≡ replicate 3 (Err BlankPlate)
   file_refused h e z = simp (le-ltb (length f) shortest h, e, blank_here z) refl
     where
       blank_here : ((cabinet_in f ≡ 0) ⊎ (line_in f ≡ 0)) ⊎ ((cabinet ≡ 0) ⊎ (line ≡ 0))
@@ -66,11 +66,11 @@ module _ (f : List ℕ) (cabinet line : ℕ) (catalogue : List ℕ) (room number
 
 -- Writing: behind the edition that is told the counts, then a zero on the plate, and with no zero all as before
 module _ (e : ℕ) (t : Table) (cabinet line : ℕ) (own catalogue : List ℕ) (room : ℕ) where
-  pub counts_first : is_edition e ≡ true → counts_in_range t.n (length own) ≡ false → write_outcome e t cabinet line own catalogue room ≡ Refused WrongCounts
+  pub counts_first : is_edition e ≡ true → counts_in_range t.n (length own) ≡ false → write_outcome e t cabinet line own catalogue room ≡ Err WrongCounts
   counts_first edition c = rw (edition, c) refl
 
   pub write_refused : is_edition e ≡ true → counts_in_range t.n (length own) ≡ true → (cabinet ≡ 0) ⊎ (line ≡ 0)
-      → write_outcome e t cabinet line own catalogue room ≡ Refused BlankPlate
+      → write_outcome e t cabinet line own catalogue room ≡ Err BlankPlate
   write_refused edition c z = rw (edition, c, zero_blank cabinet line z) refl
 
   pub write_as_before : 1 ≤ cabinet → 1 ≤ line

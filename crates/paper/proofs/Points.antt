@@ -1,4 +1,5 @@
 -- Fixed preemption points (document 02, item 2): what the last region is, and what it is to pass. Records are counted from 0 here: i is record i + 1.
+use Rattle.std.specs.Prelude.{Ok}
 use Prim.Native.Nat.{ℕ, ◌+◌, ◌-◌, ◌*◌, ◌≤◌, ◌<◌}
 use mathlib.Core.Path.{◌≡◌, refl, ap, ◌∙◌}
 use mathlib.Core.Bool.{Bool, true, false, ◌&&◌, ◌||◌, or-true, cond}
@@ -17,7 +18,6 @@ use Rattle.paper.specs.Points.{last_region, Chunks, alpha, before_last, has_time
 use Rattle.paper.specs.Answers.{regions_outcome, regions_words, last_words}
 use Rattle.paper.specs.declared.Record.{Record}
 use Rattle.paper.specs.declared.Table.{Table}
-use Rattle.paper.specs.declared.Outcome.TheVariants.{Done}
 use Rattle.paper.proofs.Tests.{both, within, every_says, some_says, some_there}
 use Rattle.paper.proofs.Asks.{met}
 
@@ -53,7 +53,7 @@ all_regions_say rs n own catalogue e k l =
     regions_say _ _ _ _ (every_says n (λ k. record_regions_hold own catalogue (rec rs k)) (both (words_in_range own 0 (length own)) _ e).1 k l)
 
 -- The last region is the last word of the task's regions, and it is what the test takes for q.
-module _ (t : Table) (own catalogue : List ℕ) (number : ℕ) (e : regions_outcome t own catalogue number ≡ Done) where
+module _ (t : Table) (own catalogue : List ℕ) (number : ℕ) (e : regions_outcome t own catalogue number ≡ Ok tt) where
   pub held : let r = rec t.records (number - 1) in Held (list_of r.source own catalogue) r.first r.count r.cost
   held =
       let c = met (counts_in_range t.n (length own)) _ _ e in

@@ -1,4 +1,6 @@
 -- The order of rows, and that the listing's answers are unique: theorems about the definitions of specs/Rows.antt and specs/Answers.antt alone.
+use Rattle.paper.specs.Refusals.{Outcome}
+use Rattle.std.specs.Prelude.{Err, Ok, Result}
 use Prim.Native.Nat.{ℕ, zero, suc, ◌<◌}
 use native.Mathlib.Nat.{eq-or-lt_of_le, not-suc-le-zero}
 use native.Mathlib.Decide.{dec_le}
@@ -11,10 +13,9 @@ use Rattle.paper.specs.Analysis.{Tasks}
 use Rattle.paper.specs.Rows.{row_size, Later, Next, Ended}
 use Rattle.paper.specs.Answers.{Lists, Says, FirstSays, NextSays}
 use Rattle.paper.specs.declared.Table.{Table}
-use Rattle.paper.specs.declared.Outcome.{Outcome}
-use Rattle.paper.specs.declared.Outcome.TheVariants.{Done, Refused}
-use Rattle.paper.specs.declared.RowAnswer.{RowAnswer}
-use Rattle.paper.specs.declared.RowAnswer.TheVariants as Row
+use Rattle.paper.specs.declared.Refusal.{Refusal}
+use Rattle.paper.specs.declared.Step.{Step}
+use Rattle.paper.specs.declared.Step.TheVariants.{Row, End}
 
 -- No row is later than itself.
 pub later_irreflexive : (r : List ℕ) → Later r r → ⊥
@@ -100,33 +101,33 @@ pub next_or_ended : (y : Tasks) (given a : List ℕ) → Next y given a → Ende
 unfolding Ended
 next_or_ended y given a p e = e a p.passing p.after
 
-lists_unique : (y : Tasks) (given out p q : List ℕ) (a b : RowAnswer) → Lists y given out p a → Lists y given out q b → (a ≡ b) × (p ≡ q)
+lists_unique : (y : Tasks) (given out p q : List ℕ) (a b : Result Step Refusal) → Lists y given out p a → Lists y given out q b → (a ≡ b) × (p ≡ q)
 unfolding Lists
-lists_unique y given out p q Row.Row Row.Row v w =
+lists_unique y given out p q (Ok Row) (Ok Row) v w =
     let k = row_size y.n in (
       refl,
       sym (take-append-drop k p)
           ∙ ap₂ (λ (s t : List ℕ). s ++ t) (next_one y given (take k p) (take k q) v.0 w.0) (v.1 ∙ sym w.1)
           ∙ take-append-drop k q,
     )
-lists_unique y given out p q Row.Row Row.End v w = absurd (next_or_ended y given _ v.0 w.0)
-lists_unique y given out p q Row.Row (Row.Refused r) v w = absurd w
-lists_unique y given out p q Row.End Row.Row v w = absurd (next_or_ended y given _ w.0 v.0)
-lists_unique y given out p q Row.End Row.End v w = (refl, v.1 ∙ sym w.1)
-lists_unique y given out p q Row.End (Row.Refused r) v w = absurd w
-lists_unique y given out p q (Row.Refused r) b v w = absurd v
+lists_unique y given out p q (Ok Row) (Ok End) v w = absurd (next_or_ended y given _ v.0 w.0)
+lists_unique y given out p q (Ok Row) (Err r) v w = absurd w
+lists_unique y given out p q (Ok End) (Ok Row) v w = absurd (next_or_ended y given _ w.0 v.0)
+lists_unique y given out p q (Ok End) (Ok End) v w = (refl, v.1 ∙ sym w.1)
+lists_unique y given out p q (Ok End) (Err r) v w = absurd w
+lists_unique y given out p q (Err r) b v w = absurd v
 
-says_unique : (o : Outcome) (y : Tasks) (given out p q : List ℕ) (a b : RowAnswer) → Says o y given out p a → Says o y given out q b → (a ≡ b) × (p ≡ q)
+says_unique : (o : Outcome) (y : Tasks) (given out p q : List ℕ) (a b : Result Step Refusal) → Says o y given out p a → Says o y given out q b → (a ≡ b) × (p ≡ q)
 unfolding Says
-says_unique Done y given out p q a b v w = lists_unique y given out p q a b v w
-says_unique (Refused r) y given out p q a b v w = (v.0 ∙ sym w.0, v.1 ∙ sym w.1)
+says_unique (Ok done) y given out p q a b v w = lists_unique y given out p q a b v w
+says_unique (Err r) y given out p q a b v w = (v.0 ∙ sym w.0, v.1 ∙ sym w.1)
 
 -- Two answers to a request for the first row that are both allowed, for one table and one buffer, are the same answer and leave the same buffer.
-pub first_unique : (t : Table) (out p q : List ℕ) (a b : RowAnswer) → FirstSays t out p a → FirstSays t out q b → (a ≡ b) × (p ≡ q)
+pub first_unique : (t : Table) (out p q : List ℕ) (a b : Result Step Refusal) → FirstSays t out p a → FirstSays t out q b → (a ≡ b) × (p ≡ q)
 unfolding FirstSays
 first_unique t out p q a b v w = says_unique _ _ [] out p q a b v w
 
 -- The same of a request for the next row, for one table, one row asked from and one buffer.
-pub next_unique : (t : Table) (given out p q : List ℕ) (a b : RowAnswer) → NextSays t given out p a → NextSays t given out q b → (a ≡ b) × (p ≡ q)
+pub next_unique : (t : Table) (given out p q : List ℕ) (a b : Result Step Refusal) → NextSays t given out p a → NextSays t given out q b → (a ≡ b) × (p ≡ q)
 unfolding NextSays
 next_unique t given out p q a b v w = says_unique _ _ given out p q a b v w

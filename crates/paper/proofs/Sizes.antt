@@ -1,4 +1,5 @@
 -- Length in bytes: shortest 22, longest 485 (document 02, items 6 and 9); 22 to 440 in edition 1, 25 to 485 in edition 2.
+use Rattle.std.specs.Prelude.{Ok}
 use Prim.Native.Nat.{ℕ, ◌+◌, ◌*◌, ◌/◌, ◌≤◌}
 use mathlib.Core.Path.{◌≡◌, refl}
 use mathlib.Core.Bool.{Bool, true, false, cond}
@@ -9,8 +10,7 @@ use native.Mathlib.Omega.{arith}
 use Rattle.paper.specs.Numbers.{most_tasks, most_words}
 use Rattle.paper.specs.File.{in_edition, edition_in, file_length, shortest}
 use Rattle.paper.specs.Answers.{read_outcome}
-use Rattle.paper.specs.declared.Outcome.TheVariants.{Done}
-use Rattle.paper.proofs.Reading.{read_says}
+use Rattle.paper.proofs.Loading.{read_says}
 use Rattle.paper.proofs.Editions.{in_either}
 
 pub length_most : (e n m : ℕ) → n ≤ most_tasks → m ≤ most_words → file_length e n m ≤ in_edition e 440 485
@@ -32,7 +32,7 @@ pub lengths_reached : (file_length 1 1 0 ≡ shortest) × (file_length 1 most_ta
 lengths_reached = (refl, refl, refl, refl)
 
 -- so no file is read that is shorter or longer than its edition allows,
-pub read_bounds : (f : List ℕ) (cabinet line : ℕ) (catalogue : List ℕ) (room : ℕ) → read_outcome f cabinet line catalogue room ≡ Done
+pub read_bounds : (f : List ℕ) (cabinet line : ℕ) (catalogue : List ℕ) (room : ℕ) → read_outcome f cabinet line catalogue room ≡ Ok tt
     → (in_edition (edition_in f) 22 25 ≤ length f) × (length f ≤ in_edition (edition_in f) 440 485)
 read_bounds f cabinet line catalogue room done =
     let l = read_says f cabinet line catalogue room done in
@@ -45,7 +45,7 @@ length_below e n m b c =
     let longest : in_edition e 440 485 ≤ 485 = in_either (λ (x : ℕ). x ≤ 485) e (omega arith) (omega arith) in
     omega arith
 
-pub longest_file : (f : List ℕ) (cabinet line : ℕ) (catalogue : List ℕ) (room : ℕ) → read_outcome f cabinet line catalogue room ≡ Done → length f ≤ 485
+pub longest_file : (f : List ℕ) (cabinet line : ℕ) (catalogue : List ℕ) (room : ℕ) → read_outcome f cabinet line catalogue room ≡ Ok tt → length f ≤ 485
 longest_file f cabinet line catalogue room done =
     let l = read_says f cabinet line catalogue room done in
     rw l.size (length_below (edition_in f) _ _ l.few_tasks l.few_words)

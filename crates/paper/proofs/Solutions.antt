@@ -1,4 +1,5 @@
 -- L, S and F by document 01's own equations, written out, with document 02's changes to them (items 5 and 8): each is the smallest solution from where its search begins to H, and "beyond" says that there is none.
+use Rattle.std.specs.Prelude.{None, Option, Some}
 use Prim.Native.Nat.{ℕ, ◌+◌, ◌-◌, ◌*◌, ◌/◌, ◌≤◌, ◌<◌}
 use mathlib.Core.Path.{◌≡◌, refl}
 use mathlib.Core.Bool.{cond}
@@ -8,8 +9,6 @@ use lib.Dec.{eqb}
 use Rattle.paper.specs.Vocabulary.{sum_to, ceil_div}
 use Rattle.paper.specs.Numbers.{horizon}
 use Rattle.paper.specs.Analysis.{Tasks, Standing, least, before, by, load, level_sum, level_of, start_sum, start_of, finish_sum, finish_of}
-use Rattle.paper.specs.declared.Time.{Time}
-use Rattle.paper.specs.declared.Time.TheVariants.{At, Beyond}
 use Rattle.paper.proofs.Searched.{searched, none_found}
 
 -- x is the smallest solution of x = f x, from `from` to H
@@ -20,18 +19,18 @@ pub record Smallest (f : ℕ → ℕ) (from x : ℕ) : Type 0 where
   pub first : (z : ℕ) → from ≤ z → z < x → z ≡ f z → ⊥
 
 -- what a search answers: the smallest, or that there is none
-abbrev pub Solved : (ℕ → ℕ) → ℕ → Time → Type 0
-Solved f from (At x) = Smallest f from x
-Solved f from Beyond = (x : ℕ) → from ≤ x → x ≤ horizon → x ≡ f x → ⊥
+abbrev pub Solved : (ℕ → ℕ) → ℕ → Option ℕ → Type 0
+Solved f from (Some x) = Smallest f from x
+Solved f from None = (x : ℕ) → from ≤ x → x ≤ horizon → x ≡ f x → ⊥
 
 solved : (f : ℕ → ℕ) (from n : ℕ) → from + n ≡ horizon + 1 → Solved f from (least (λ x. eqb x (f x)) from n)
 solved f from n h = go (least (λ x. eqb x (f x)) from n) refl
   where
-    go : (v : Time) → least (λ x. eqb x (f x)) from n ≡ v → Solved f from v
-    go (At x) e =
+    go : (v : Option ℕ) → least (λ x. eqb x (f x)) from n ≡ v → Solved f from v
+    go (Some x) e =
         let w = searched _ from n x e in
         record { low = w.low; high = omega (arith, w.high); solves = eqb-true _ _ w.hit; first = λ z l m. eqb-false _ _ (w.first z l m) }
-    go Beyond e = λ z l m. eqb-false _ _ (none_found _ from n e z l (omega arith))
+    go None e = λ z l m. eqb-false _ _ (none_found _ from n e z l (omega arith))
 
 module _ (y : Tasks) (s : Standing) where
   -- L(i) is the smallest positive L with L = b + sum over p(j) ≤ p(i) of ceil((L + J(j))/T(j))·C(j)

@@ -1,4 +1,5 @@
 -- Writing a table: what is known of a table that the writer takes, and that nothing else keeps a table from being written.
+use Rattle.std.specs.Prelude.{Ok}
 use Prim.{tt}
 use mathlib.Core.Path.{◌≡◌, ap}
 use mathlib.Core.Bool.{true, false, not, ◌&&◌}
@@ -12,7 +13,6 @@ use Rattle.paper.specs.File.{is_edition, file_length}
 use Rattle.paper.specs.Regions.{all_regions_hold}
 use Rattle.paper.specs.Refusals.{blank, write_asks}
 use Rattle.paper.specs.Answers.{write_outcome}
-use Rattle.paper.specs.declared.Outcome.TheVariants.{Done}
 use Rattle.paper.specs.declared.Table.{Table}
 use Rattle.paper.proofs.Tests.{both, ◌and◌, within}
 use Rattle.paper.proofs.Asks.{done_none, none_done}
@@ -33,7 +33,7 @@ pub record Taken (e : ℕ) (t : Table) (cabinet line : ℕ) (own catalogue : Lis
   pub fits : file_length e t.n (length own) ≤ room
 
 module _ (e : ℕ) (t : Table) (cabinet line : ℕ) (own catalogue : List ℕ) (room : ℕ) where
-  pub write_says : write_outcome e t cabinet line own catalogue room ≡ Done → Taken e t cabinet line own catalogue room
+  pub write_says : write_outcome e t cabinet line own catalogue room ≡ Ok tt → Taken e t cabinet line own catalogue room
   write_says done =
       let a2 = done_none (write_asks e t cabinet line own catalogue room) done in
       let a5 = a2.1 in
@@ -59,7 +59,7 @@ module _ (e : ℕ) (t : Table) (cabinet line : ℕ) (own catalogue : List ℕ) (
         fits = ltb-false room (file_length e t.n (length own)) a19.1.0;
       }
 
-  pub write_done : Taken e t cabinet line own catalogue room → write_outcome e t cabinet line own catalogue room ≡ Done
+  pub write_done : Taken e t cabinet line own catalogue room → write_outcome e t cabinet line own catalogue room ≡ Ok tt
   write_done w =
       none_done (write_asks e t cabinet line own catalogue room)
       (ap not w.edition
@@ -73,5 +73,5 @@ module _ (e : ℕ) (t : Table) (cabinet line : ℕ) (own catalogue : List ℕ) (
       and tt)
 
   -- No file is written for cabinet 0 or line 0.
-  pub not_blank : write_outcome e t cabinet line own catalogue room ≡ Done → (1 ≤ cabinet) × (1 ≤ line)
+  pub not_blank : write_outcome e t cabinet line own catalogue room ≡ Ok tt → (1 ≤ cabinet) × (1 ≤ line)
   not_blank done = plate_says cabinet line (write_says done).plated

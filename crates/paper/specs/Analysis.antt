@@ -1,11 +1,9 @@
 -- Document 01, "The analysis": response times; by document 02 blocking on a ticking controller (item 5), which job was worst (item 4) and release jitter (item 8). Task i is record i + 1.
-use Rattle.std.specs.Prelude.{ℕ, zero, suc, ◌+◌, ◌-◌, ◌*◌, ◌/◌, max, Bool, true, false, ◌&&◌, cond, List, leb, ltb, eqb}
+use Rattle.std.specs.Prelude.{ℕ, zero, suc, ◌+◌, ◌-◌, ◌*◌, ◌/◌, max, Bool, true, false, ◌&&◌, cond, List, leb, ltb, eqb, Option, Some, None}
 use Rattle.paper.specs.Vocabulary.{every, lowest, sum_to, max_to, ceil_div}
 use Rattle.paper.specs.Numbers.{rec, horizon, Assignment}
 use Rattle.paper.specs.declared.Record.{Record}
 use Rattle.paper.specs.declared.Response.{Response}
-use Rattle.paper.specs.declared.Time.{Time}
-use Rattle.paper.specs.declared.Time.TheVariants.{At, Beyond}
 
 -- cost C, period T, deadline D, jitter J of each of n tasks
 pub record Tasks : Type 0 where
@@ -19,10 +17,10 @@ abbrev pub tasks_of : List Record → ℕ → Tasks
 tasks_of rs n =
     record { n = n; c = λ k. (rec rs k).cost; t = λ k. (rec rs k).period; d = λ k. (rec rs k).deadline; j = λ k. (rec rs k).jitter }
 
--- "the smallest x with ..": the first of from, from + 1, .., from + count - 1 that passes the test; Beyond where none does
-unfoldable pub least : (ℕ → Bool) → ℕ → ℕ → Time
-least test from zero = Beyond
-least test from (suc count) = elim (test from) [ true ↦ At from | false ↦ least test (suc from) count ]
+-- "the smallest x with ..": the first of from, from + 1, .., from + count - 1 that passes the test; None, which is "beyond", where none does
+unfoldable pub least : (ℕ → Bool) → ℕ → ℕ → Option ℕ
+least test from zero = None
+least test from (suc count) = elim (test from) [ true ↦ Some from | false ↦ least test (suc from) count ]
 
 -- In sums, an argument x of a ceiling or floor becomes x + J(j): how many jobs of j may have been asked for before x, ceil((x + J(j))/T(j)),
 -- and how many by x, 1 + floor((x + J(j))/T(j))
@@ -65,7 +63,7 @@ unfoldable pub level_sum : Tasks → Standing → ℕ → ℕ
 level_sum y s x = s.b + load y s.level (before y x)
 
 -- from 1 to H
-unfoldable pub level_of : Tasks → Standing → Time
+unfoldable pub level_of : Tasks → Standing → Option ℕ
 level_of y s = least (λ x. eqb x (level_sum y s x)) 1 horizon
 
 -- Start S: the smallest S ≥ 0 with S = b + k·C(i) + sum over p(j) < p(i) of (1 + floor((S + J(j))/T(j)))·C(j), blocked or not
@@ -73,7 +71,7 @@ unfoldable pub start_sum : Tasks → Standing → ℕ → ℕ → ℕ → ℕ
 start_sum y s i k x = s.b + k * y.c i + load y s.above (by y x)
 
 -- from 0 to H
-unfoldable pub start_of : Tasks → Standing → ℕ → ℕ → Time
+unfoldable pub start_of : Tasks → Standing → ℕ → ℕ → Option ℕ
 start_of y s i k = least (λ x. eqb x (start_sum y s i k x)) 0 (horizon + 1)
 
 -- Finish F: the smallest F > S with F = S + C(i) + sum over p(j) < h(i) of (ceil((F + J(j))/T(j)) − started(j))·C(j), where started(j) is 1 + floor((S + J(j))/T(j)), blocked or not;
@@ -82,58 +80,58 @@ unfoldable pub finish_sum : Tasks → Standing → ℕ → ℕ → ℕ → ℕ
 finish_sum y s i start x = start + y.c i + load y s.cuts (λ j. before y x j - by y start j)
 
 -- from S + 1 to H
-unfoldable pub finish_of : Tasks → Standing → ℕ → ℕ → Time
+unfoldable pub finish_of : Tasks → Standing → ℕ → ℕ → Option ℕ
 finish_of y s i start = least (λ x. eqb x (finish_sum y s i start x)) (start + 1) (horizon - start)
 
-unfoldable pub finish_from : Tasks → Standing → ℕ → Time → Time
-finish_from y s i (At start) = finish_of y s i start
-finish_from y s i Beyond = Beyond
+unfoldable pub finish_from : Tasks → Standing → ℕ → Option ℕ → Option ℕ
+finish_from y s i (Some start) = finish_of y s i start
+finish_from y s i None = None
 
 -- F of job k
-unfoldable pub job : Tasks → Standing → ℕ → ℕ → Time
+unfoldable pub job : Tasks → Standing → ℕ → ℕ → Option ℕ
 job y s i k = finish_from y s i (start_of y s i k)
 
 -- R(i) is the largest F + J(i) − k·T(i) over jobs k from 0 to ceil((L + J(i))/T(i)) − 1; if L, any S or any F has no solution at or below H, "beyond".
 -- A difference below zero counts as 0 here. L ≥ 1, so job 0 is among them, and its F + J(i) − 0 is above zero (proofs/Responses.antt has R by the signed differences).
-unfoldable pub later : Time → Time → ℕ → ℕ → Time
-later (At r) (At f) jitter released = At (max r (f + jitter - released))
-later (At r) Beyond jitter released = Beyond
-later Beyond f jitter released = Beyond
+unfoldable pub later : Option ℕ → Option ℕ → ℕ → ℕ → Option ℕ
+later (Some r) (Some f) jitter released = Some (max r (f + jitter - released))
+later (Some r) None jitter released = None
+later None f jitter released = None
 
-unfoldable pub worst : Tasks → Standing → ℕ → ℕ → Time
-worst y s i zero = At 0
+unfoldable pub worst : Tasks → Standing → ℕ → ℕ → Option ℕ
+worst y s i zero = Some 0
 worst y s i (suc k) = later (worst y s i k) (job y s i k) (y.j i) (k * y.t i)
 
-unfoldable pub worst_from : Tasks → Standing → ℕ → Time → Time
-worst_from y s i (At l) = worst y s i (before y l i)
-worst_from y s i Beyond = Beyond
+unfoldable pub worst_from : Tasks → Standing → ℕ → Option ℕ → Option ℕ
+worst_from y s i (Some l) = worst y s i (before y l i)
+worst_from y s i None = None
 
-unfoldable pub response : Tasks → Standing → ℕ → Time
+unfoldable pub response : Tasks → Standing → ℕ → Option ℕ
 response y s i = worst_from y s i (level_of y s)
 
 -- Beside R stands the number k of the job that reached it; where several reach the same value, the first. Jobs count from 0, `lowest` from 1, so 1 is taken off.
 -- R is above zero, so that a difference below zero, counted as 0, never reaches it.
-unfoldable pub reaches : Time → ℕ → ℕ → ℕ → Bool
-reaches (At f) jitter released r = eqb (f + jitter - released) r
-reaches Beyond jitter released r = false
+unfoldable pub reaches : Option ℕ → ℕ → ℕ → ℕ → Bool
+reaches (Some f) jitter released r = eqb (f + jitter - released) r
+reaches None jitter released r = false
 
 -- Where R is "beyond" k is 0 and means nothing.
-unfoldable pub first_reaching : Tasks → Standing → ℕ → ℕ → Time → ℕ
-first_reaching y s i count (At r) = lowest count (λ k. reaches (job y s i k) (y.j i) (k * y.t i) r) - 1
-first_reaching y s i count Beyond = 0
+unfoldable pub first_reaching : Tasks → Standing → ℕ → ℕ → Option ℕ → ℕ
+first_reaching y s i count (Some r) = lowest count (λ k. reaches (job y s i k) (y.j i) (k * y.t i) r) - 1
+first_reaching y s i count None = 0
 
 -- over jobs k from 0 to ceil((L + J(i))/T(i)) − 1
-unfoldable pub worst_job : Tasks → Standing → ℕ → Time → Time → ℕ
-worst_job y s i (At l) r = first_reaching y s i (before y l i) r
-worst_job y s i Beyond r = 0
+unfoldable pub worst_job : Tasks → Standing → ℕ → Option ℕ → Option ℕ → ℕ
+worst_job y s i (Some l) r = first_reaching y s i (before y l i) r
+worst_job y s i None r = 0
 
 unfoldable pub with_job : Tasks → Standing → ℕ → Response
 with_job y s i = record { time = response y s i; job = worst_job y s i (level_of y s) (response y s i) }
 
 -- An assignment passes when every R(i) exists and R(i) ≤ D(i)
-unfoldable pub within : Time → ℕ → Bool
-within (At r) d = leb r d
-within Beyond d = false
+unfoldable pub within : Option ℕ → ℕ → Bool
+within (Some r) d = leb r d
+within None d = false
 
 unfoldable pub task_passes : Tasks → Assignment → ℕ → Bool
 task_passes y a i = within (with_job y (standing y a i) i).time (y.d i)

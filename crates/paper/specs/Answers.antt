@@ -1,60 +1,47 @@
 -- What each of the thirteen calls answers, and what every lent memory holds afterwards.
 -- A refusal returns its number (and record, for 16) and no lent byte or word has changed. On success only the bytes or words of the answer are written; the rest stay.
-use Rattle.std.specs.Prelude.{ℕ, ◌+◌, ◌-◌, ◌≡◌, Bool, false, cond, List, [], ◌++◌, ℤ, pos, length, take, drop, replicate}
-use Rattle.paper.specs.Numbers.{most_tasks, per_task, zero_record, rec, assigned}
+use Rattle.std.specs.Prelude.{ℕ, ◌+◌, ◌-◌, ◌≡◌, Bool, cond, List, [], ◌++◌, ℤ, pos, length, take, drop, Some, Result, Ok, Err}
+use Rattle.paper.specs.Numbers.{per_task, rec, assigned}
 use Rattle.paper.specs.File.{edition_in, words_in, file_length, own_words, table_in, file_of}
 use Rattle.paper.specs.Regions.{Part, part_of, no_part, list_of, record_part, regions_part, last_part, name_list, name_part}
 use Rattle.paper.specs.Analysis.{Tasks, tasks_of, standing, with_job}
 use Rattle.paper.specs.Lengths.{tolerance, length_of, all_fit}
 use Rattle.paper.specs.Points.{chunks_of, points_pass}
 use Rattle.paper.specs.Rows.{row_size, Next, Ended}
-use Rattle.paper.specs.Refusals.{first_of, read_asks, record_asks, write_asks, times_asks, tolerances_asks, lengths_asks, fit_asks, first_asks, next_asks, regions_asks, name_asks}
+use Rattle.paper.specs.Refusals.{Outcome, first_of, read_asks, record_asks, write_asks, times_asks, tolerances_asks, lengths_asks, fit_asks, first_asks, next_asks, regions_asks, name_asks}
 use Rattle.paper.specs.declared.Source.{Source}
 use Rattle.paper.specs.declared.Source.TheVariants.{Own}
 use Rattle.paper.specs.declared.Table.{Table}
-use Rattle.paper.specs.declared.Outcome.{Outcome}
-use Rattle.paper.specs.declared.Outcome.TheVariants.{Done, Refused}
-use Rattle.paper.specs.declared.ReadAnswer.{ReadAnswer}
-use Rattle.paper.specs.declared.WriteAnswer.{WriteAnswer}
-use Rattle.paper.specs.declared.WriteAnswer.TheVariants as Write
-use Rattle.paper.specs.declared.Time.TheVariants.{At}
+use Rattle.paper.specs.declared.Refusal.{Refusal}
+use Rattle.paper.specs.declared.Reading.{Reading}
 use Rattle.paper.specs.declared.Response.{Response}
-use Rattle.paper.specs.declared.TimesAnswer.{TimesAnswer}
-use Rattle.paper.specs.declared.TicksAnswer.{TicksAnswer}
-use Rattle.paper.specs.declared.FitAnswer.{FitAnswer}
-use Rattle.paper.specs.declared.FitAnswer.TheVariants as Fit
+use Rattle.paper.specs.declared.Shown.{Shown}
 use Rattle.paper.specs.declared.Shown.TheVariants.{NotShown, Passes}
-use Rattle.paper.specs.declared.PointVerdict.{PointVerdict}
-use Rattle.paper.specs.declared.PointsAnswer.{PointsAnswer}
-use Rattle.paper.specs.declared.RowAnswer.{RowAnswer}
-use Rattle.paper.specs.declared.RowAnswer.TheVariants as Row
+use Rattle.paper.specs.declared.Step.{Step}
+use Rattle.paper.specs.declared.Step.TheVariants.{Row, End}
 
--- a where the call is done, b where it is turned away
+-- Where a call is turned away it hands back its refusal and nothing else; else a. And what a lent memory holds: a where the call is done, b where it is turned away
 module _ {A : Type 0} where
+  abbrev pub answered : Outcome → A → Result A Refusal
+  answered (Ok done) a = Ok a
+  answered (Err r) a = Err r
+
   abbrev pub when_done : Outcome → A → A → A
-  when_done Done a b = a
-  when_done (Refused r) a b = b
+  when_done (Ok done) a b = a
+  when_done (Err r) a b = b
 
 -- Reading: the edition, the table and m; and the m region words at the front of the output
-abbrev pub no_table : Table
-no_table = record { n = 0; records = replicate most_tasks zero_record }
+abbrev pub reading_of : List ℕ → Reading
+reading_of f = record { edition = edition_in f; table = table_in f; words = words_in f }
 
 abbrev pub read_outcome : List ℕ → ℕ → ℕ → List ℕ → ℕ → Outcome
 read_outcome f cabinet line catalogue room = first_of (read_asks f cabinet line catalogue room)
 
-abbrev pub table_for : Outcome → List ℕ → ReadAnswer
-table_for o f = record {
-  outcome = o;
-  edition = when_done o (edition_in f) 0;
-  table = when_done o (table_in f) no_table;
-  words = when_done o (words_in f) 0;
-}
-
 abbrev pub words_for : Outcome → List ℕ → List ℕ → List ℕ
 words_for o f out = when_done o (own_words f ++ drop (words_in f) out) out
 
-abbrev pub read_answer : List ℕ → ℕ → ℕ → List ℕ → List ℕ → ReadAnswer
-read_answer f cabinet line catalogue out = table_for (read_outcome f cabinet line catalogue (length out)) f
+abbrev pub read_answer : List ℕ → ℕ → ℕ → List ℕ → List ℕ → Result Reading Refusal
+read_answer f cabinet line catalogue out = answered (read_outcome f cabinet line catalogue (length out)) (reading_of f)
 
 abbrev pub read_out : List ℕ → ℕ → ℕ → List ℕ → List ℕ → List ℕ
 read_out f cabinet line catalogue out = words_for (read_outcome f cabinet line catalogue (length out)) f out
@@ -63,17 +50,13 @@ read_out f cabinet line catalogue out = words_for (read_outcome f cabinet line c
 abbrev pub write_outcome : ℕ → Table → ℕ → ℕ → List ℕ → List ℕ → ℕ → Outcome
 write_outcome e t cabinet line own catalogue room = first_of (write_asks e t cabinet line own catalogue room)
 
-abbrev pub length_for : Outcome → ℕ → WriteAnswer
-length_for Done size = Write.File size
-length_for (Refused r) size = Write.Refused r
-
 abbrev pub file_for : Outcome → ℕ → Table → ℕ → ℕ → List ℕ → List ℕ → List ℕ
 file_for o e t cabinet line own out =
     when_done o (file_of e t cabinet line own ++ drop (file_length e t.n (length own)) out) out
 
-abbrev pub write_answer : ℕ → Table → ℕ → ℕ → List ℕ → List ℕ → List ℕ → WriteAnswer
+abbrev pub write_answer : ℕ → Table → ℕ → ℕ → List ℕ → List ℕ → List ℕ → Result ℕ Refusal
 write_answer e t cabinet line own catalogue out =
-    length_for (write_outcome e t cabinet line own catalogue (length out)) (file_length e t.n (length own))
+    answered (write_outcome e t cabinet line own catalogue (length out)) (file_length e t.n (length own))
 
 abbrev pub write_out : ℕ → Table → ℕ → ℕ → List ℕ → List ℕ → List ℕ → List ℕ
 write_out e t cabinet line own catalogue out =
@@ -81,71 +64,55 @@ write_out e t cabinet line own catalogue out =
 
 -- Response times: for each task its R with the job that reached it, or beyond with job 0
 abbrev pub no_time : Response
-no_time = record { time = At 0; job = 0 }
+no_time = record { time = Some 0; job = 0 }
 
 abbrev pub time_of : Table → ℕ → Response
 time_of t i =
     with_job (tasks_of t.records t.n) (standing (tasks_of t.records t.n) (assigned t.records) i) i
 
-abbrev pub times_for : Outcome → Table → TimesAnswer
-times_for o t = record { outcome = o; times = when_done o (per_task t.n (time_of t) no_time) (replicate most_tasks no_time) }
-
-abbrev pub times_answer : Table → TimesAnswer
-times_answer t = times_for (first_of (times_asks t)) t
+abbrev pub times_answer : Table → Result (List Response) Refusal
+times_answer t = answered (first_of (times_asks t)) (per_task t.n (time_of t) no_time)
 
 -- Tolerances, lengths: a signed number for each task
-abbrev pub ticks_for : Outcome → ℕ → (ℕ → ℤ) → TicksAnswer
-ticks_for o n f = record { outcome = o; ticks = when_done o (per_task n f (pos 0)) (replicate most_tasks (pos 0)) }
-
-abbrev pub tolerances_answer : Table → TicksAnswer
+abbrev pub tolerances_answer : Table → Result (List ℤ) Refusal
 tolerances_answer t =
-    ticks_for (first_of (tolerances_asks t)) t.n (tolerance (tasks_of t.records t.n) (assigned t.records))
+    answered (first_of (tolerances_asks t)) (per_task t.n (tolerance (tasks_of t.records t.n) (assigned t.records)) (pos 0))
 
-abbrev pub lengths_answer : Table → TicksAnswer
+abbrev pub lengths_answer : Table → Result (List ℤ) Refusal
 lengths_answer t =
-    ticks_for (first_of (lengths_asks t)) t.n (length_of (tasks_of t.records t.n) (assigned t.records))
+    answered (first_of (lengths_asks t)) (per_task t.n (length_of (tasks_of t.records t.n) (assigned t.records)) (pos 0))
 
 -- The region check: yes exactly when every region of every task is at most its task's length
-abbrev pub fit_for : Outcome → Bool → FitAnswer
-fit_for Done fits = cond fits Fit.Fits Fit.Unfit
-fit_for (Refused r) fits = Fit.Refused r
-
-abbrev pub fit_answer : Table → List ℕ → List ℕ → FitAnswer
+abbrev pub fit_answer : Table → List ℕ → List ℕ → Result Bool Refusal
 fit_answer t own catalogue =
-    fit_for (first_of (fit_asks t own catalogue))
+    answered (first_of (fit_asks t own catalogue))
     (all_fit t.records (tasks_of t.records t.n) (assigned t.records) own catalogue)
 
--- Fixed preemption points: for each task, whether it passes; the test is sufficient only, so a "no" is "not shown"; past n, and on a refusal, nothing is shown either. The refusals are the region check's
-abbrev pub verdict_for : Bool → PointVerdict
-verdict_for passes = record { verdict = cond passes Passes NotShown }
+-- Fixed preemption points: for each task, whether it passes; the test is sufficient only, so a "no" is "not shown"; past n nothing is shown either. The refusals are the region check's
+abbrev pub verdict_for : Bool → Shown
+verdict_for passes = cond passes Passes NotShown
 
-abbrev pub points_for : Outcome → ℕ → (ℕ → Bool) → PointsAnswer
-points_for o n f = record {
-  outcome = o;
-  tasks = when_done o (per_task n (λ k. verdict_for (f k)) (verdict_for false)) (replicate most_tasks (verdict_for false));
-}
-
-abbrev pub points_answer : Table → List ℕ → List ℕ → PointsAnswer
+abbrev pub points_answer : Table → List ℕ → List ℕ → Result (List Shown) Refusal
 points_answer t own catalogue =
-    points_for (first_of (fit_asks t own catalogue)) t.n
-    (points_pass (tasks_of t.records t.n) (assigned t.records) (chunks_of t.records own catalogue))
+    answered (first_of (fit_asks t own catalogue))
+    (per_task t.n (λ k. verdict_for (points_pass (tasks_of t.records t.n) (assigned t.records) (chunks_of t.records own catalogue) k)) NotShown)
 
 -- The listing: out and out' are what the buffer holds before and after. A row found is its first 2n numbers; the end and a refusal write nothing.
-unfoldable pub Lists : Tasks → List ℕ → List ℕ → List ℕ → RowAnswer → Type 0
-Lists y given out out' Row.Row = Next y given (take (row_size y.n) out') × (drop (row_size y.n) out' ≡ drop (row_size y.n) out)
-Lists y given out out' Row.End = Ended y given × (out' ≡ out)
-Lists y given out out' (Row.Refused r) = ⊥
+unfoldable pub Lists : Tasks → List ℕ → List ℕ → List ℕ → Result Step Refusal → Type 0
+Lists y given out out' (Ok Row) = Next y given (take (row_size y.n) out') × (drop (row_size y.n) out' ≡ drop (row_size y.n) out)
+Lists y given out out' (Ok End) = Ended y given × (out' ≡ out)
+Lists y given out out' (Err r) = ⊥
 
-unfoldable pub Says : Outcome → Tasks → List ℕ → List ℕ → List ℕ → RowAnswer → Type 0
-Says Done y given out out' answer = Lists y given out out' answer
-Says (Refused r) y given out out' answer = (answer ≡ Row.Refused r) × (out' ≡ out)
+unfoldable pub Says : Outcome → Tasks → List ℕ → List ℕ → List ℕ → Result Step Refusal → Type 0
+Says (Ok done) y given out out' answer = Lists y given out out' answer
+Says (Err r) y given out out' answer = (answer ≡ Err r) × (out' ≡ out)
 
 -- the first of all: from a row that has not begun
-unfoldable pub FirstSays : Table → List ℕ → List ℕ → RowAnswer → Type 0
+unfoldable pub FirstSays : Table → List ℕ → List ℕ → Result Step Refusal → Type 0
 FirstSays t out out' answer = Says (first_of (first_asks t (length out))) (tasks_of t.records t.n) [] out out' answer
 
 -- the first strictly after a given row
-unfoldable pub NextSays : Table → List ℕ → List ℕ → List ℕ → RowAnswer → Type 0
+unfoldable pub NextSays : Table → List ℕ → List ℕ → List ℕ → Result Step Refusal → Type 0
 NextSays t given out out' answer = Says (first_of (next_asks t given (length out))) (tasks_of t.records t.n) given out out' answer
 
 -- Parts handed back: the outcome, and where the part stands in the list it is of; on a refusal it is empty, at the start

@@ -1,23 +1,18 @@
 -- Document 01, "Bench figures": those marked P, as document 02, item 5, changes them, as one table of what is asked and what comes out.
 -- The papers' figures would let some wrong rules of items 4, 5 and 8 pass, and have none of item 2. Those marked "ours" stand beside them for that, worked out by hand.
-use Rattle.std.specs.Prelude.{ℕ, zero, suc, ◌+◌, ◌-◌, Bool, true, false, ◌&&◌, cond, List, [], ◌∷◌, ◌++◌, map, ℤ, pos, get_or, length, replicate}
+use Rattle.std.specs.Prelude.{ℕ, zero, suc, ◌+◌, ◌-◌, Bool, true, false, ◌&&◌, cond, List, [], ◌∷◌, ◌++◌, map, ℤ, pos, get_or, length, replicate, Option, Some, None, Result, Ok, Err}
 use Rattle.paper.specs.Vocabulary.{list_to}
 use Rattle.paper.specs.Numbers.{most_tasks, zero_record, assigned}
 use Rattle.paper.specs.Analysis.{tasks_of, standing, job, passes}
 use Rattle.paper.specs.Rows.{row_size, row_assignment, row_holds}
 use Rattle.paper.specs.Refusals.{number_of, record_of}
-use Rattle.paper.specs.Answers.{times_answer, tolerances_answer, lengths_answer, fit_answer, points_answer, verdict_for, regions_outcome, last_words, no_time}
+use Rattle.paper.specs.Answers.{times_answer, tolerances_answer, lengths_answer, fit_answer, points_answer, regions_outcome, last_words, no_time}
 use Rattle.paper.specs.declared.Source.TheVariants.{Own, Catalogue}
 use Rattle.paper.specs.declared.Record.{Record}
 use Rattle.paper.specs.declared.Table.{Table}
-use Rattle.paper.specs.declared.Outcome.{Outcome}
-use Rattle.paper.specs.declared.Outcome.TheVariants.{Done, Refused}
-use Rattle.paper.specs.declared.Time.{Time}
-use Rattle.paper.specs.declared.Time.TheVariants.{At, Beyond}
+use Rattle.paper.specs.declared.Refusal.{Refusal}
 use Rattle.paper.specs.declared.Shown.{Shown}
 use Rattle.paper.specs.declared.Shown.TheVariants.{NotShown, Passes}
-use Rattle.paper.specs.declared.FitAnswer.{FitAnswer}
-use Rattle.paper.specs.declared.FitAnswer.TheVariants as Fit
 
 -- what a figure asks; records are numbered from 1
 pub data Asked : Type 0 where
@@ -41,18 +36,14 @@ pub data Came : Type 0 where
   words : List ℕ → Came
   refused : ℕ → ℕ → Came
 
-abbrev pub time_came : Time → Came
-time_came (At r) = number (pos r)
-time_came Beyond = beyond
+abbrev pub time_came : Option ℕ → Came
+time_came (Some r) = number (pos r)
+time_came None = beyond
 
-abbrev pub came : Outcome → Came → Came
-came Done c = c
-came (Refused r) c = refused (number_of r) (record_of r)
-
-abbrev pub fit_came : FitAnswer → Came
-fit_came Fit.Fits = says true
-fit_came Fit.Unfit = says false
-fit_came (Fit.Refused r) = refused (number_of r) (record_of r)
+module _ {A : Type 0} where
+  abbrev pub came : Result A Refusal → (A → Came) → Came
+  came (Ok a) c = c a
+  came (Err r) c = refused (number_of r) (record_of r)
 
 abbrev pub shown_came : Shown → Came
 shown_came Passes = says true
@@ -78,16 +69,16 @@ passing_rows t =
     (numbered t.n (row_size t.n))
 
 abbrev pub comes_out : Asked → Came
-comes_out (response_of t k) = came (times_answer t).outcome (time_came (get_or (times_answer t).times (k - 1) no_time).time)
-comes_out (worst_of t k) = came (times_answer t).outcome (number (pos (get_or (times_answer t).times (k - 1) no_time).job))
+comes_out (response_of t k) = came (times_answer t) (λ times. time_came (get_or times (k - 1) no_time).time)
+comes_out (worst_of t k) = came (times_answer t) (λ times. number (pos (get_or times (k - 1) no_time).job))
 comes_out (passing t) = says (passes (tasks_of t.records t.n) (assigned t.records))
 comes_out (rows_of t) = rows (passing_rows t)
-comes_out (tolerance_of t k) = came (tolerances_answer t).outcome (number (get_or (tolerances_answer t).ticks (k - 1) (pos 0)))
-comes_out (longest t k) = came (lengths_answer t).outcome (number (get_or (lengths_answer t).ticks (k - 1) (pos 0)))
-comes_out (fitting t own) = fit_came (fit_answer t own [])
+comes_out (tolerance_of t k) = came (tolerances_answer t) (λ ticks. number (get_or ticks (k - 1) (pos 0)))
+comes_out (longest t k) = came (lengths_answer t) (λ ticks. number (get_or ticks (k - 1) (pos 0)))
+comes_out (fitting t own) = came (fit_answer t own []) (λ fits. says fits)
 comes_out (points_of t own catalogue k) =
-    came (points_answer t own catalogue).outcome (shown_came (get_or (points_answer t own catalogue).tasks (k - 1) (verdict_for false)).verdict)
-comes_out (last_of t own catalogue k) = came (regions_outcome t own catalogue k) (words (last_words t own catalogue k))
+    came (points_answer t own catalogue) (λ verdicts. shown_came (get_or verdicts (k - 1) NotShown))
+comes_out (last_of t own catalogue k) = came (regions_outcome t own catalogue k) (λ done. words (last_words t own catalogue k))
 comes_out (first_finish t k) =
     time_came (job (tasks_of t.records t.n) (standing (tasks_of t.records t.n) (assigned t.records) (k - 1)) (k - 1) 0)
 

@@ -1,5 +1,5 @@
 -- Document 01, "Numbers a turned-away call returns", with what document 02 adds to it, 18 (item 1), 19 and more of 9 and 16 (item 8), 2 and 6 of both editions (item 9): for each call the numbers it asks, in the order asked. The two calls of item 2 ask what others ask.
-use Rattle.std.specs.Prelude.{ℕ, ◌+◌, ◌-◌, Bool, not, ◌&&◌, ◌||◌, cond, List, [], ◌∷◌, ◌++◌, leb, ltb, eqb, length}
+use Rattle.std.specs.Prelude.{ℕ, ◌+◌, ◌-◌, Bool, not, ◌&&◌, ◌||◌, cond, List, [], ◌∷◌, ◌++◌, leb, ltb, eqb, length, Result, Ok, Err}
 use Rattle.paper.specs.Vocabulary.{every}
 use Rattle.paper.specs.Numbers.{rec, tasks_in_range, counts_in_range, records_in_range, most_cabinet, most_name, any_jitter, assigned, unassigned, assignment_holds}
 use Rattle.paper.specs.File.{is_edition, edition_in, cabinet_in, line_in, tasks_in, words_in, shortest, file_length, sealed, spare_clear, table_in, own_words}
@@ -11,8 +11,6 @@ use Rattle.paper.specs.declared.Record.{Record}
 use Rattle.paper.specs.declared.Table.{Table}
 use Rattle.paper.specs.declared.Refusal.{Refusal}
 use Rattle.paper.specs.declared.Refusal.TheVariants.{Short, WrongEdition, WrongCabinet, WrongLine, WrongCounts, WrongLength, WrongSeal, SpareBitSet, OutOfRange, BadAssignment, BadRegions, NoRoom, NoSuchPart, Unassigned, DeadlineAbovePeriod, ToleranceBelowZero, BadRow, BlankPlate, JitterInEditionOne}
-use Rattle.paper.specs.declared.Outcome.{Outcome}
-use Rattle.paper.specs.declared.Outcome.TheVariants.{Done, Refused}
 
 -- the paper's number of each refusal, and for 16 the record that it names (0 for the others)
 abbrev pub number_of : Refusal → ℕ
@@ -57,6 +55,10 @@ record_of BadRow = 0
 record_of BlankPlate = 0
 record_of JitterInEditionOne = 0
 
+-- A call is done, or turned away with one refusal
+abbrev pub Outcome : Type 0
+Outcome = Result (Unit {0}) Refusal
+
 abbrev pub Asks : Type 0
 Asks = List (Refusal × Bool)
 
@@ -64,8 +66,8 @@ Asks = List (Refusal × Bool)
 -- It rises but for the regions of a record and the last of them (5, 13, 11), and but for two exceptions of document 02: 18 (item 1), asked straight after 2 when reading, straight after 5 when writing,
 -- and 19 (item 8), asked between 11 and 12 when writing.
 abbrev pub first_of : Asks → Outcome
-first_of [] = Done
-first_of (ask ∷ asks) = cond ask.1 (Refused ask.0) (first_of asks)
+first_of [] = Ok tt
+first_of (ask ∷ asks) = cond ask.1 (Err ask.0) (first_of asks)
 
 -- an edition but 1 and 2, of a file or told to the writer
 abbrev pub wrong_edition : ℕ → Refusal × Bool

@@ -5,21 +5,28 @@
 // Cabinet number, 24 bits, and line number, 16 bits: two types, so that one can't stand for the other.
 // A cabinet above 24 bits is refused when writing (9) and matches no file when reading (3). No file is read or written
 // for cabinet 0 or line 0, and none is read that says either (18, asked before 3 and 9).
-#[derive(Clone, Copy)]
+#[derive(Clone, Copy, Debug, PartialEq, Eq)]
 pub struct Cabinet(pub u32);
 
-#[derive(Clone, Copy)]
+#[derive(Clone, Copy, Debug, PartialEq, Eq)]
 pub struct Line(pub u16);
 
+// What a cabinet's plate says: its number and its line's. No file is read or written for a blank plate, whose cabinet or line is 0 (18).
+#[derive(Clone, Copy, Debug, PartialEq, Eq)]
+pub struct Plate {
+    pub cabinet: Cabinet,
+    pub line: Line,
+}
+
 // Where a task's regions stand: the file's own region words, or a lent catalogue.
-#[derive(Clone, Copy)]
+#[derive(Clone, Copy, Debug, PartialEq, Eq)]
 pub enum Source {
     Own,
     Catalogue,
 }
 
 // One task. Outside a file a field may hold any number: the calls ask whether it is in range.
-#[derive(Clone, Copy)]
+#[derive(Clone, Copy, Debug, PartialEq, Eq)]
 pub struct Record {
     pub cost: u32,
     pub period: u32,
@@ -50,14 +57,14 @@ pub const MOST_CABINET: u32 = 0xff_ffff;
 pub const HORIZON: u64 = 1_000_000;
 
 // Records past n are not looked at.
-#[derive(Clone, Copy)]
+#[derive(Clone, Copy, Debug, PartialEq, Eq)]
 pub struct Table {
     pub n: usize,
     pub records: [Record; MOST_TASKS],
 }
 
 // Why a call was turned away. number_of (specs/Refusals.antt) gives the paper's number.
-#[derive(Clone, Copy)]
+#[derive(Clone, Copy, Debug, PartialEq, Eq)]
 pub enum Refusal {
     Short,
     WrongEdition,
@@ -84,106 +91,36 @@ pub enum Refusal {
     JitterInEditionOne,
 }
 
-#[derive(Clone, Copy)]
-pub enum Outcome {
-    Done,
-    Refused(Refusal),
-}
-
 // Reading: the file's edition, which its writer has to be told to write the same bytes again, the table, and how many region
-// words stand at the front of the output. On a refusal these three are zero.
-#[derive(Clone, Copy)]
-pub struct ReadAnswer {
-    pub outcome: Outcome,
+// words stand at the front of the output.
+#[derive(Clone, Copy, Debug, PartialEq, Eq)]
+pub struct Reading {
     pub edition: u8,
     pub table: Table,
     pub words: usize,
 }
 
-// Writing: the number of bytes of the file, or a refusal.
-#[derive(Clone, Copy)]
-pub enum WriteAnswer {
-    File(usize),
-    Refused(Refusal),
-}
-
-// A response time, or none: L, a start or a finish has no solution at or below the horizon.
-#[derive(Clone, Copy)]
-pub enum Time {
-    At(u64),
-    Beyond,
-}
-
-// A response time, and the number k of the job of the active period that reached it. The jobs count from 0; where several
-// reached it, k is the first of them. Where the time is beyond, k is 0 and means nothing.
-#[derive(Clone, Copy)]
+// A response time, or none where L, a start or a finish has no solution at or below the horizon; and the number k of the job of the
+// active period that reached it. The jobs count from 0; where several reached it, k is the first of them. Where there is no time,
+// k is 0 and means nothing (the must-fail edit job-beside-beyond holds that, so the two stand beside each other).
+#[derive(Clone, Copy, Debug, PartialEq, Eq)]
 pub struct Response {
-    pub time: Time,
+    pub time: Option<u64>,
     pub job: u64,
-}
-
-// Response times of records 1 to n. The others, and all on a refusal, are time 0 and job 0, and neither means anything.
-#[derive(Clone, Copy)]
-pub struct TimesAnswer {
-    pub outcome: Outcome,
-    pub times: [Response; MOST_TASKS],
-}
-
-// Tolerances, or lengths, of records 1 to n. The others, and all on a refusal, are 0.
-#[derive(Clone, Copy)]
-pub struct TicksAnswer {
-    pub outcome: Outcome,
-    pub ticks: [i64; MOST_TASKS],
-}
-
-// The region check.
-#[derive(Clone, Copy)]
-pub enum FitAnswer {
-    Fits,
-    Unfit,
-    Refused(Refusal),
 }
 
 // The test of fixed preemption points for one task (document 02, item 2): for firmware that yields at region ends alone and knows
 // no thresholds. Where every task passes, source document 000's Theorem 3 calls the set schedulable; it has no jitter, which item 8
 // adds. The test is sufficient only: a task that is not shown may be in time all the same.
-#[derive(Clone, Copy)]
+#[derive(Clone, Copy, Debug, PartialEq, Eq)]
 pub enum Shown {
     NotShown,
     Passes,
 }
 
-// A struct around it, as around a response time: an array of enums was no field when the answers were settled.
-#[derive(Clone, Copy)]
-pub struct PointVerdict {
-    pub verdict: Shown,
-}
-
-// The test for records 1 to n. The others, and all on a refusal, are not shown, which means nothing there.
-#[derive(Clone, Copy)]
-pub struct PointsAnswer {
-    pub outcome: Outcome,
-    pub tasks: [PointVerdict; MOST_TASKS],
-}
-
-// The listing: the row is in the lent buffer, or no row follows, or a refusal.
-#[derive(Clone, Copy)]
-pub enum RowAnswer {
+// The listing: the row is in the lent buffer, or no row follows.
+#[derive(Clone, Copy, Debug, PartialEq, Eq)]
+pub enum Step {
     Row,
     End,
-    Refused(Refusal),
-}
-
-// A part of lent bytes (a record, a name) with its outcome. On a refusal the part is empty.
-#[derive(Clone, Copy)]
-pub struct BytesPart<'a> {
-    pub outcome: Outcome,
-    pub bytes: &'a [u8],
-}
-
-// A part of lent region words (a task's regions, or the last of them) with its outcome. On a refusal the part is empty.
-#[derive(Clone, Copy)]
-pub struct WordsPart<'a> {
-    pub outcome: Outcome,
-    pub words: &'a [u32],
 }

@@ -1,4 +1,3 @@
-pub mod NameParts
 pub mod RegionParts
 pub mod RecordParts
 pub mod OnePart

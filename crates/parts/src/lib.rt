@@ -1,46 +1,30 @@
 // The parts handed back: a record, a task's regions, a name. Each is a part of what the caller lent, never a copy.
-// Each comes in three calls: the outcome alone, the bare part (empty where the call is turned away), and both from one call.
+// Beside each call stand two that want less of it: its outcome alone, and the bare part, empty where the call is turned away.
 #![tactic(auto)]
 
-ghost use Rattle.std.specs.Prelude.{◌≡◌, cond, ◌&&◌, ◌+◌, ◌-◌, ◌*◌, ◌≤◌, leb, length};
-ghost use Rattle.paper.specs.Numbers.{most_tasks, rec};
-ghost use Rattle.paper.specs.Regions.{list_of, in_cabinet_list, name_list, name_start, trimmed};
+ghost use Rattle.std.specs.Prelude.{◌≡◌, cond, ◌&&◌, ◌+◌, ◌*◌, ◌≤◌, leb, length, IfOk};
+ghost use Rattle.paper.specs.Regions.{list_of, in_cabinet_list, name_width, name_list, name_start, trimmed};
 ghost use Rattle.paper.specs.Answers.{record_outcome, regions_outcome, name_outcome};
-ghost use Rattle.parts.specs.Parts.{IsPart, IsName, slice_of, AreRegions, IsRecord};
+ghost use Rattle.file_head.specs.Asks.{outcome_of};
+ghost use Rattle.parts.specs.Parts.{IsName, slice_of, AreRegions, IsRecord};
 
-use paper::{BytesPart, Cabinet, Line, Outcome, Record, Refusal, Source, Table, WordsPart};
+use paper::{Plate, Refusal, Source, Table};
 
 // A name's entry, and the first name number that stands in the house list.
 const NAME_BYTES: usize = 16;
 
 const FIRST_OF_HOUSE: u32 = 64;
 
-// `count` bytes, or words, from `from`.
-fn bytes_from<'a>(s: &'a [u8], from: usize, count: usize) -> &'a [u8]
-    requires { from + count ≤ length s.now }
-    ensures { IsPart s.entry 1 (record { from = from; count = count }) result }
-{
-    let end = from + count;
-    &s[from..end]
-}
-
-fn words_from<'a>(s: &'a [u32], from: usize, count: usize) -> &'a [u32]
-    requires { from + count ≤ length s.now }
-    ensures { IsPart s.entry 4 (record { from = from; count = count }) result }
-{
-    let end = from + count;
-    &s[from..end]
-}
-
 // The name. The list that a number stands in, and where its entry begins there.
 fn name_list<'a>(number: u32, cabinet: &'a [u8], house: &'a [u8]) -> &'a [u8]
     ensures value { result ≡ cond (in_cabinet_list number) cabinet.entry house.entry }
     ensures result_value { result.now ≡ name_list number cabinet.now house.now }
 {
-    if FIRST_OF_HOUSE <= number {
-        return house;
+    if number < FIRST_OF_HOUSE {
+        cabinet
+    } else {
+        house
     }
-    cabinet
 }
 
 fn name_start(number: u32) -> usize
@@ -48,71 +32,53 @@ fn name_start(number: u32) -> usize
     ensures upper_bound { result ≤ 16 * number }
 {
     if number < FIRST_OF_HOUSE {
-        return NAME_BYTES * number as usize;
+        NAME_BYTES * number as usize
+    } else {
+        NAME_BYTES * (number - FIRST_OF_HOUSE) as usize
     }
-    NAME_BYTES * (number - FIRST_OF_HOUSE) as usize
 }
 
-pub fn name_outcome<'a>(number: u32, cabinet: &'a [u8], house: &'a [u8]) -> Outcome
-    ensures { result ≡ name_outcome number cabinet.now house.now }
+// How many bytes of the entry at `at` stay without the trailing spaces.
+#[tactic(auto, unfolding(paper::specs::Regions::trimmed))]
+fn kept(s: &[u8], at: usize) -> usize
+    requires { at + name_width ≤ length s.now }
+    ensures value { result ≡ trimmed s.now at name_width }
+    ensures upper_bound { result ≤ name_width }
 {
-    let list = name_list(number, cabinet, house);
-    let end = name_start(number) + NAME_BYTES;
-    if paper::MOST_NAME < number {
-        return Outcome::Refused(Refusal::OutOfRange);
-    }
-    if list.len() < end {
-        return Outcome::Refused(Refusal::NoSuchPart);
-    }
-    Outcome::Done
-}
-
-// How many of the `width` bytes from `at` stay without the trailing spaces.
-fn kept(s: &[u8], at: usize, width: usize) -> usize
-    requires { at + width ≤ length s.now }
-    ensures value { result ≡ trimmed s.now at width }
-    ensures upper_bound { result ≤ width }
-{
-    let mut stay = width;
-    while 0 < stay {
-        let last = stay - 1;
-        if s[at + last] != b' ' {
-            return stay;
+    let mut stay = 0;
+    for k in 0..NAME_BYTES {
+        if s[at + k] != b' ' {
+            stay = k + 1;
         }
-        stay = last;
     }
     stay
 }
 
-// The part that an outcome gives.
-fn name_for<'a>(outcome: Outcome, number: u32, cabinet: &'a [u8], house: &'a [u8]) -> &'a [u8]
-    requires { outcome ≡ name_outcome number cabinet.now house.now }
-    ensures { IsName number cabinet.entry house.entry result }
+pub fn name<'a>(number: u32, cabinet: &'a [u8], house: &'a [u8]) -> Result<&'a [u8], Refusal>
+    ensures outcome { outcome_of result ≡ name_outcome number cabinet.now house.now }
+    ensures part { IfOk result (IsName number cabinet.entry house.entry) }
 {
-    let list = name_list(number, cabinet, house);
-    match outcome {
-        Outcome::Refused(_) => bytes_from(list, 0, 0),
-        Outcome::Done => {
-            let at = name_start(number);
-            let stay = kept(list, at, NAME_BYTES);
-            bytes_from(list, at, stay)
-        }
+    if paper::MOST_NAME < number {
+        return Err(Refusal::OutOfRange);
     }
+    let list = name_list(number, cabinet, house);
+    let at = name_start(number);
+    if list.len() < at + NAME_BYTES {
+        return Err(Refusal::NoSuchPart);
+    }
+    Ok(&list[at..at + kept(list, at)])
+}
+
+pub fn name_outcome(number: u32, cabinet: &[u8], house: &[u8]) -> Result<(), Refusal>
+    ensures { result ≡ name_outcome number cabinet.now house.now }
+{
+    name(number, cabinet, house).map(|_| ())
 }
 
 pub fn name_bytes<'a>(number: u32, cabinet: &'a [u8], house: &'a [u8]) -> &'a [u8]
     ensures { IsName number cabinet.entry house.entry result }
 {
-    let outcome = name_outcome(number, cabinet, house);
-    name_for(outcome, number, cabinet, house)
-}
-
-pub fn name<'a>(number: u32, cabinet: &'a [u8], house: &'a [u8]) -> BytesPart<'a>
-    ensures { (result.outcome ≡ name_outcome number cabinet.now house.now) × IsName number cabinet.entry house.entry result.bytes }
-{
-    let outcome = name_outcome(number, cabinet, house);
-    let bytes = name_for(outcome, number, cabinet, house);
-    BytesPart { outcome, bytes }
+    name(number, cabinet, house).unwrap_or(&name_list(number, cabinet, house)[..0])
 }
 
 // The regions. The list that a record's source names.
@@ -130,141 +96,83 @@ fn source_list<'a>(source: Source, own: &'a [u32], catalogue: &'a [u32]) -> &'a 
 fn is_record(number: usize, n: usize) -> bool
     ensures { result ≡ (leb 1 number && leb number n) }
 {
-    (1 <= number) & (number <= n)
+    (1..=n).contains(&number)
 }
 
-fn record_of(t: Table, number: usize) -> Record
-    requires { (1 ≤ number) × (number ≤ most_tasks) }
-    ensures { result ≡ rec t.records (number - 1) }
-{
-    let rs = t.records;
-    rs[number - 1]
-}
-
-pub fn regions_outcome<'a>(t: Table, own: &'a [u32], catalogue: &'a [u32], number: usize) -> Outcome
-    ensures { result ≡ regions_outcome t own.now catalogue.now number }
-{
-    let n = t.n;
-    if !checks::counts_in_range(n, own.len()) {
-        return Outcome::Refused(Refusal::WrongCounts);
-    }
-    if !is_record(number, n) {
-        return Outcome::Refused(Refusal::NoSuchPart);
-    }
-    if !regions::record_regions_hold(own, catalogue, record_of(t, number)) {
-        return Outcome::Refused(Refusal::BadRegions);
-    }
-    Outcome::Done
-}
-
-// The part that an outcome gives, for the calls that hand back all of it or a part of it.
-pub fn regions_for<'a>(
-    outcome: Outcome,
+#[tactic(auto, using(crate::proofs::RegionParts::in_list))]
+pub fn regions<'a>(
     t: Table,
     own: &'a [u32],
     catalogue: &'a [u32],
     number: usize,
-) -> &'a [u32]
-    requires { outcome ≡ regions_outcome t own.now catalogue.now number }
-    ensures { AreRegions t own.entry catalogue.entry number result }
+) -> Result<&'a [u32], Refusal>
+    ensures outcome { outcome_of result ≡ regions_outcome t own.now catalogue.now number }
+    ensures part { IfOk result (AreRegions t own.entry catalogue.entry number) }
 {
-    match outcome {
-        Outcome::Refused(_) => words_from(own, 0, 0),
-        Outcome::Done => {
-            let r = record_of(t, number);
-            let source = r.source;
-            let from = r.first as usize;
-            let count = r.count as usize;
-            let list = source_list(source, own, catalogue);
-            words_from(list, from, count)
-        }
+    if !checks::counts_in_range(t.n, own.len()) {
+        return Err(Refusal::WrongCounts);
     }
+    if !is_record(number, t.n) {
+        return Err(Refusal::NoSuchPart);
+    }
+    let r = t.records[number - 1];
+    if !regions::record_regions_hold(own, catalogue, r) {
+        return Err(Refusal::BadRegions);
+    }
+    let list = source_list(r.source, own, catalogue);
+    let from = r.first as usize;
+    Ok(&list[from..from + r.count as usize])
+}
+
+pub fn regions_outcome(
+    t: Table,
+    own: &[u32],
+    catalogue: &[u32],
+    number: usize,
+) -> Result<(), Refusal>
+    ensures { result ≡ regions_outcome t own.now catalogue.now number }
+{
+    regions(t, own, catalogue, number).map(|_| ())
 }
 
 pub fn regions_words<'a>(t: Table, own: &'a [u32], catalogue: &'a [u32], number: usize) -> &'a [u32]
     ensures { AreRegions t own.entry catalogue.entry number result }
 {
-    let outcome = regions_outcome(t, own, catalogue, number);
-    regions_for(outcome, t, own, catalogue, number)
-}
-
-pub fn regions<'a>(t: Table, own: &'a [u32], catalogue: &'a [u32], number: usize) -> WordsPart<'a>
-    ensures { (result.outcome ≡ regions_outcome t own.now catalogue.now number) × AreRegions t own.entry catalogue.entry number result.words }
-{
-    let outcome = regions_outcome(t, own, catalogue, number);
-    let words = regions_for(outcome, t, own, catalogue, number);
-    WordsPart { outcome, words }
+    regions(t, own, catalogue, number).unwrap_or(&own[..0])
 }
 
 // The record. The file is read first, and only then is the number asked.
-pub fn record_outcome(
-    file: &[u8],
-    cabinet: Cabinet,
-    line: Line,
-    catalogue: &[u32],
-    number: usize,
-) -> Outcome
-    ensures { result ≡ record_outcome file.now cabinet.0 line.0 catalogue.now number }
-{
-    let outcome = reader::file_outcome(file, cabinet, line, catalogue);
-    match outcome {
-        Outcome::Refused(r) => Outcome::Refused(r),
-        Outcome::Done => {
-            let n = layout::task_count(file);
-            if !is_record(number, n) {
-                return Outcome::Refused(Refusal::NoSuchPart);
-            }
-            Outcome::Done
-        }
-    }
-}
-
-// The plate and the catalogue are there for what is promised: they decide the outcome.
-fn record_for<'a>(
-    outcome: Outcome,
-    file: &'a [u8],
-    cabinet: Cabinet,
-    line: Line,
-    catalogue: &[u32],
-    number: usize,
-) -> &'a [u8]
-    requires { outcome ≡ record_outcome file.now cabinet.0 line.0 catalogue.now number }
-    ensures { IsRecord file.entry cabinet.0 line.0 catalogue.now number result }
-{
-    match outcome {
-        Outcome::Refused(_) => bytes_from(file, 0, 0),
-        Outcome::Done => {
-            let edition = layout::edition_of(file);
-            let from = layout::record_from(edition, number - 1);
-            let count = layout::record_size(edition);
-            bytes_from(file, from, count)
-        }
-    }
-}
-
-pub fn record_bytes<'a>(
-    file: &'a [u8],
-    cabinet: Cabinet,
-    line: Line,
-    catalogue: &[u32],
-    number: usize,
-) -> &'a [u8]
-    ensures { IsRecord file.entry cabinet.0 line.0 catalogue.now number result }
-{
-    let outcome = record_outcome(file, cabinet, line, catalogue, number);
-    record_for(outcome, file, cabinet, line, catalogue, number)
-}
-
 pub fn record<'a>(
     file: &'a [u8],
-    cabinet: Cabinet,
-    line: Line,
+    plate: Plate,
     catalogue: &[u32],
     number: usize,
-) -> BytesPart<'a>
-    ensures { (result.outcome ≡ record_outcome file.now cabinet.0 line.0 catalogue.now number) × IsRecord file.entry cabinet.0 line.0 catalogue.now number result.bytes }
+) -> Result<&'a [u8], Refusal>
+    ensures outcome { outcome_of result ≡ record_outcome file.now plate.cabinet.0 plate.line.0 catalogue.now number }
+    ensures part { IfOk result (IsRecord file.entry plate.cabinet.0 plate.line.0 catalogue.now number) }
 {
-    let outcome = record_outcome(file, cabinet, line, catalogue, number);
-    let bytes = record_for(outcome, file, cabinet, line, catalogue, number);
-    BytesPart { outcome, bytes }
+    let shape = reader::file_shape(file, plate, catalogue)?;
+    if !is_record(number, shape.tasks) {
+        return Err(Refusal::NoSuchPart);
+    }
+    let from = shape.edition.record_from(number - 1);
+    let count = shape.edition.record_size();
+    Ok(&file[from..from + count])
+}
+
+pub fn record_outcome(
+    file: &[u8],
+    plate: Plate,
+    catalogue: &[u32],
+    number: usize,
+) -> Result<(), Refusal>
+    ensures { result ≡ record_outcome file.now plate.cabinet.0 plate.line.0 catalogue.now number }
+{
+    record(file, plate, catalogue, number).map(|_| ())
+}
+
+pub fn record_bytes<'a>(file: &'a [u8], plate: Plate, catalogue: &[u32], number: usize) -> &'a [u8]
+    ensures { IsRecord file.entry plate.cabinet.0 plate.line.0 catalogue.now number result }
+{
+    record(file, plate, catalogue, number).unwrap_or(&file[..0])
 }

@@ -2,50 +2,38 @@
 
 #![tactic(auto)]
 
-ghost use Rattle.std.specs.Prelude.{◌≡◌, ◌+◌, ◌<◌, ◌≤◌, ◌^◌, length, get_or};
-ghost use Rattle.paper.specs.Vocabulary.{every};
-ghost use Rattle.paper.specs.Numbers.{most_tasks, most_words, rec};
-ghost use Rattle.paper.specs.Regions.{list_of, words_in_range, words_sum, regions_hold, record_regions_hold, all_regions_hold};
+ghost use Rattle.std.specs.Prelude.{◌≡◌, ◌<◌, ◌≤◌, ◌^◌, length, get_or, sum};
+ghost use Rattle.std.specs.List.{list_all};
+ghost use Rattle.paper.specs.Numbers.{most_tasks, most_words, ticks_in_range};
+ghost use Rattle.paper.specs.Regions.{regions_hold, record_regions_hold, all_regions_hold};
 
-use paper::{Record, Source};
+use paper::{Record, Source, Table};
 
 // The word at i, or 0 past the end.
 pub fn word(list: &[u32], i: usize) -> u32
     ensures { result ≡ get_or list.now i 0 }
 {
-    if i < list.len() { list[i] } else { 0 }
+    list.get(i).copied().unwrap_or(0)
 }
 
-fn words_in_range(list: &[u32], first: usize, count: usize) -> bool
-    requires { first + count < 2 ^ 31 }
-    ensures { result ≡ words_in_range list.now first count }
+fn words_in_range(words: &[u32]) -> bool
+    ensures { result ≡ list_all ticks_in_range words.now }
 {
-    let mut ok = true;
-    let mut i: usize = 0;
-    while i < count {
-        ok = ok & checks::ticks_in_range(word(list, first + i));
-        i += 1;
-    }
-    ok
+    words.iter().all(|word| checks::ticks_in_range(*word))
 }
 
-fn words_sum(list: &[u32], first: usize, count: usize) -> u64
-    requires { first + count < 2 ^ 31 }
-    ensures { result ≡ words_sum list.now first count }
+fn words_sum(words: &[u32]) -> u64
+    requires { length words.now < 2 ^ 31 }
+    ensures { result ≡ sum words.now }
 {
-    let mut sum: u64 = 0;
-    let mut i: usize = 0;
-    while i < count {
-        sum = sum + word(list, first + i) as u64;
-        i += 1;
-    }
-    sum
+    words.iter().map(|word| u64::from(*word)).sum()
 }
 
 // The most that `first` or `count` of a record may be: 7 bits each in the file.
 const MOST_PLACE: usize = 127;
 
 // The bounds come first, so that no count makes the loops long.
+#[tactic(auto, using(crate::proofs::Regions::bounds))]
 fn regions_hold(list: &[u32], first: u32, count: u32, c: u32) -> bool
     ensures { result ≡ regions_hold list.now first count c }
 {
@@ -60,60 +48,29 @@ fn regions_hold(list: &[u32], first: u32, count: u32, c: u32) -> bool
     if list.len() < from + many {
         return false;
     }
-    let sum = words_sum(list, from, many);
-    (1 <= many) & (words_in_range(list, from, many) & (sum == c as u64))
-}
-
-fn source_regions_hold(
-    own: &[u32],
-    catalogue: &[u32],
-    source: Source,
-    first: u32,
-    count: u32,
-    c: u32,
-) -> bool
-    ensures { result ≡ regions_hold (list_of source own.now catalogue.now) first count c }
-{
-    match source {
-        Source::Own => regions_hold(own, first, count, c),
-        Source::Catalogue => regions_hold(catalogue, first, count, c),
-    }
+    let words = &list[from..from + many];
+    let sum = words_sum(words);
+    (1 <= many) & (words_in_range(words) & (sum == u64::from(c)))
 }
 
 pub fn record_regions_hold(own: &[u32], catalogue: &[u32], r: Record) -> bool
     ensures { result ≡ record_regions_hold own.now catalogue.now r }
 {
-    let source = r.source;
-    source_regions_hold(own, catalogue, source, r.first, r.count, r.cost)
+    let list = match r.source {
+        Source::Own => own,
+        Source::Catalogue => catalogue,
+    };
+    regions_hold(list, r.first, r.count, r.cost)
 }
 
-fn records_regions_hold(
-    rs: [Record; paper::MOST_TASKS],
-    n: usize,
-    own: &[u32],
-    catalogue: &[u32],
-) -> bool
-    requires { n ≤ most_tasks }
-    ensures { result ≡ every n (λ k. record_regions_hold own.now catalogue.now (rec rs k)) }
+#[tactic(auto, using(crate::proofs::Regions::whole), unfolding(paper::specs::Vocabulary::every, paper::specs::Regions::all_regions_hold))]
+pub fn all_regions_hold(t: &Table, own: &[u32], catalogue: &[u32]) -> bool
+    requires { (t.now.n ≤ most_tasks) × (length own.now ≤ most_words) }
+    ensures { result ≡ all_regions_hold t.now.records t.now.n own.now catalogue.now }
 {
     let mut ok = true;
-    let mut k: usize = 0;
-    while k < n {
-        ok = ok & record_regions_hold(own, catalogue, rs[k]);
-        k += 1;
+    for k in 0..t.n {
+        ok &= record_regions_hold(own, catalogue, t.records[k]);
     }
-    ok
-}
-
-pub fn all_regions_hold(
-    rs: [Record; paper::MOST_TASKS],
-    n: usize,
-    own: &[u32],
-    catalogue: &[u32],
-) -> bool
-    requires { (n ≤ most_tasks) × (length own.now ≤ most_words) }
-    ensures { result ≡ all_regions_hold rs n own.now catalogue.now }
-{
-    let m = own.len();
-    words_in_range(own, 0, m) & records_regions_hold(rs, n, own, catalogue)
+    words_in_range(own) & ok
 }

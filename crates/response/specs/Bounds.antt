@@ -1,17 +1,16 @@
 -- A response time with its job, and one that only matters up to a bound.
-use Rattle.std.specs.Prelude.{ℕ, cond}
+use Rattle.std.specs.Prelude.{ℕ, cond, Option, Some, None}
 use Rattle.paper.specs.Numbers.{Assignment}
 use Rattle.paper.specs.Analysis.{Tasks, Standing, standing, worst, first_reaching, with_job, within}
 use Rattle.paper.specs.declared.Response.{Response}
-use Rattle.paper.specs.declared.Time.TheVariants.{Beyond}
 
--- the answer where no time is at or below the bound
+-- where no response time is at or below the horizon
 abbrev pub too_late : Response
-too_late = record { time = Beyond; job = 0 }
+too_late = record { time = None; job = 0 }
 
 -- a time at or below the bound, else none
-unfoldable pub bounded : ℕ → Response → Response
-bounded most r = cond (within r.time most) r too_late
+unfoldable pub bounded : ℕ → Response → Option Response
+bounded most r = cond (within r.time most) (Some r) None
 
 -- the worst of the jobs below `count`, with the first that reaches it
 abbrev pub worst_with : Tasks → Standing → ℕ → ℕ → Response

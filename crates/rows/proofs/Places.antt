@@ -37,6 +37,8 @@ module _ (n : ℕ) (d : List ℕ) (fits : n ≤ length d) (i v : ℕ) where
   unfolding place_of
   place_none l = rw (drop_of_length-le (take n d) {i = i} (rw (length-take-le n d fits) l))
 
+pub ruleset places = (place_hit, place_miss, place_none)
+
 -- A well-formed row: its numbers lie from 1 to n,
 pub formed_within : (n : ℕ) (row : List ℕ) → Formed n row → Within n row
 formed_within n row f = within_all n row (formed_range n row f)

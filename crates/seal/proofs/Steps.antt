@@ -14,3 +14,5 @@ from_step c s i h = rw (add-one, drop-cons s i 0 h)
 pub from_done : (c : ℕ) (s : List ℕ) (i : ℕ) → length s ≤ i → seal_from c (drop i s) ≡ c
 unfolding seal_from
 from_done c s i h = rw (drop_of_length-le s h)
+
+pub ruleset steps = (from_step, from_done)

@@ -1,5 +1,5 @@
 -- The seal from a table. A byte is moved through by one look into the table, because the register's lower byte only moves up meanwhile: the generator is added where a one falls out, and in eight moves no bit of the lower byte falls out.
-use mathlib.Core.Path.{◌≡◌, sym, ap, ◌∙◌}
+use mathlib.Core.Path.{◌≡◌, refl, sym, ap, ◌∙◌}
 use mathlib.Core.Logic.{by_cases}
 use mathlib.Core.Bool.{true}
 use mathlib.Core.List.{List}
@@ -11,7 +11,9 @@ use borrow.Author.Tests.{lt-ltb, le-ltb, eqb-true}
 use lib.ListN.{get_or}
 use lib.Bits.{bit_xor, xor_zero_r, xor_comm, xor_block, xor_shifted, xor_lt}
 use Rattle.paper.proofs.Tests.{every_says}
+use Rattle.paper.specs.Vocabulary.{every}
 use Rattle.paper.specs.Seal.{generator, seal_bit, seal_bits, seal_byte}
+use Rattle.seal.specs.declared.table.TheConstants.{TABLE}
 use Rattle.seal.specs.Tabled.{entries, moved, tabled}
 use Rattle.seal.proofs.Seal.{bits_lt}
 use Rattle.seal.proofs.Xor.{xor_swap, xor_twice}
@@ -20,6 +22,14 @@ use Rattle.seal.proofs.Xor.{xor_swap, xor_twice}
 pub entry : (t : List ℕ) → tabled t ≡ true → (k : ℕ) → k < entries → get_or t k 0 ≡ moved k
 unfolding tabled
 entry t e k h = eqb-true _ _ (every_says entries _ e k h)
+
+-- the code's table passes it, which the checker computes
+pub table_holds : tabled TABLE ≡ true
+unfolding tabled every seal_bits seal_bit
+table_holds = refl
+
+pub entry_of : (k : ℕ) → k < entries → get_or TABLE k 0 ≡ moved k
+entry_of k = entry TABLE table_holds k
 
 -- what is added below bit 15 leaves it as it is
 top_alone : (y l : ℕ) → y < 2 ^ 15 → l < 2 ^ 15 → bit_xor (0x8000 + y) l ≡ 0x8000 + bit_xor y l

@@ -1,6 +1,6 @@
 -- The test of a full row, on the columns of its digits.
 use Prim.Native.Nat.{ℕ, suc, ◌<◌}
-use mathlib.Core.Path.{◌≡◌, sym, ◌∙◌}
+use mathlib.Core.Path.{◌≡◌, refl, sym, ◌∙◌}
 use mathlib.Core.Bool.{Bool, true, false}
 use mathlib.Core.List.{List}
 use lib.ListN.{take}
@@ -15,9 +15,10 @@ use Rattle.rows.proofs.Places.{formed_fits, fits_alike}
 use Rattle.search.specs.Search.{Barren, Tests}
 
 -- a row that is not well formed does not pass
-pub ill_formed : (y : Tasks) (d : List ℕ) → row_holds y.n (take (row_size y.n) d) ≡ false → Tests y false d
+pub ill_formed : (y : Tasks) (d : List ℕ) (b : Bool) → b ≡ row_holds y.n (take (row_size y.n) d) → b ≡ false → Tests y b d
 unfolding Tests
-ill_formed y d e p = never _ p.form e
+ill_formed y d true e f = absurd (never true refl f)
+ill_formed y d false e f = λ p. never _ p.form (sym e)
 
 -- one that is passes where its assignment does
 well_formed : (y : Tasks) (d : List ℕ) (b : Bool) → row_holds y.n (take (row_size y.n) d) ≡ true

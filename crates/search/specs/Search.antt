@@ -1,5 +1,5 @@
 -- What the search by digits answers. Its digits are the numbers of a row, at the front of an array that has room for the longest row.
-use Rattle.std.specs.Prelude.{ℕ, ◌+◌, ◌<◌, ◌≤◌, ◌≡◌, Bool, true, false, List, length, take, get_or}
+use Rattle.std.specs.Prelude.{ℕ, ◌+◌, ◌<◌, ◌≤◌, ◌≡◌, Bool, true, false, Option, Some, None, List, length, take, get_or}
 use Rattle.paper.specs.Numbers.{most_tasks}
 use Rattle.paper.specs.Analysis.{Tasks}
 use Rattle.paper.specs.Rows.{row_size, Later, Passing}
@@ -34,6 +34,6 @@ unfoldable pub NoneFrom : Tasks → List ℕ → Type 0
 NoneFrom y p = (r : List ℕ) → Passing y r → From p r → ⊥
 
 -- what a search from p on finds: the row in the digits, or none
-unfoldable pub Finds : Tasks → List ℕ → Bool → List ℕ → Type 0
-Finds y p true d = FirstFrom y p (take (row_size y.n) d)
-Finds y p false d = NoneFrom y p
+unfoldable pub Finds : Tasks → List ℕ → Option (List ℕ) → Type 0
+Finds y p (Some d) = FirstFrom y p (take (row_size y.n) d)
+Finds y p None = NoneFrom y p

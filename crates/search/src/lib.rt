@@ -2,71 +2,53 @@
 
 #![tactic(auto)]
 
-ghost use Rattle.std.specs.Prelude.{◌≡◌, true, suc, length, take};
-ghost use Rattle.paper.specs.Numbers.{most_tasks};
-ghost use Rattle.paper.specs.Rows.{row_size};
-ghost use Rattle.columns.specs.Columns.{tasks_by, Ranged};
+ghost use Rattle.std.specs.Prelude.{◌≡◌, true, suc, take};
+ghost use Rattle.columns.specs.Tasks.{tasks_in};
 ghost use Rattle.search.specs.Search.{Begun, Barren, Tests, Finds};
 
 use columns::Tasks;
 use rows::Digits;
 
 // Whether the first 2n digits are a passing row.
-fn row_passes(n: usize, y: &Tasks, digits: &Digits) -> bool
-    requires { Ranged (tasks_by n y.now) × (length digits.now ≡ row_size most_tasks) }
-    ensures { Tests (tasks_by n y.now) result digits.now }
+fn row_passes(y: &Tasks, digits: &Digits) -> bool
+    ensures { Tests (tasks_in y.now) result digits.now }
 {
-    let p = rows::priorities_of(n, digits);
-    let h = rows::numbers_from(n, digits, n);
-    if rows::front_holds(n, digits, &p, &h) {
-        return response::passes(n, y, &p, &h);
-    }
-    false
+    let p = rows::priorities_of(y.n, digits);
+    let h = rows::numbers_from(y.n, digits, y.n);
+    rows::front_holds(y.n, digits, &p, &h) && response::passes(y, &p, &h)
 }
 
 // Whether no passing row begins with the digits up to place pos. It may say no where it does not know: so far it cuts only what can't stand
 // in a well-formed row, and the tasks are there for a cut that looks at times.
-fn hopeless(n: usize, y: &Tasks, digits: &Digits, pos: usize) -> bool
-    requires { Ranged (tasks_by n y.now) × Begun n digits.now pos }
-    ensures { result ≡ true → Barren (tasks_by n y.now) digits.now (suc pos) }
+fn hopeless(y: &Tasks, digits: &Digits, pos: usize) -> bool
+    requires { Begun y.now.n digits.now pos }
+    ensures { result ≡ true → Barren (tasks_in y.now) digits.now (suc pos) }
 {
-    !rows::fits(n, digits, pos)
-}
-
-#[derive(Clone, Copy)]
-pub struct Found {
-    pub digits: Digits,
-    pub row: bool,
+    !rows::fits(y.n, digits, pos)
 }
 
 // The first passing row that begins with the first at + 1 digits of start or is later.
-pub fn search(n: usize, y: &Tasks, start: Digits, at: usize) -> Found
-    requires { Ranged (tasks_by n y.now) × Begun n start at }
-    ensures { Finds (tasks_by n y.now) (take (suc at) start) result.row result.digits }
+pub fn search(y: &Tasks, start: Digits, at: usize) -> Option<Digits>
+    requires { Begun y.now.n start at }
+    ensures { Finds (tasks_in y.now) (take (suc at) start) result }
 {
     let mut digits = start;
     let mut pos = at;
+    // No `for`: a turn goes on to the next place or back to the one before.
     loop {
         let x = digits[pos];
-        if rows::wide(x) > n as u64 {
+        if usize::from(x) > y.n {
             // This place is done: back to the one before it.
             if pos == 0 {
-                return Found {
-                    digits: digits,
-                    row: false,
-                };
+                return None;
             }
             pos -= 1;
-            let before = digits[pos];
-            digits[pos] = before + 1;
-        } else if hopeless(n, y, &digits, pos) {
+            digits[pos] += 1;
+        } else if hopeless(y, &digits, pos) {
             digits[pos] = x + 1;
-        } else if pos + 1 == 2 * n {
-            if row_passes(n, y, &digits) {
-                return Found {
-                    digits: digits,
-                    row: true,
-                };
+        } else if pos + 1 == 2 * y.n {
+            if row_passes(y, &digits) {
+                return Some(digits);
             }
             digits[pos] = x + 1;
         } else {

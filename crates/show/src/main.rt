@@ -14,214 +14,117 @@
 mod arguments;
 mod unnamed;
 
-ghost use Rattle.std.specs.Prelude.{◌≤◌, length};
-
 use arguments::LIST_AND_ONE;
-use catalogue::MOST_NAMED;
-use paper::{Cabinet, Line, MOST_TASKS, MOST_WORDS, Outcome, Refusal, Table};
-use request::{PLATE_AND_FILE, PLATE_BYTES};
+use cells::Reason;
+use paper::{MOST_WORDS, Plate, Reading, Refusal};
+use request::PLATE_AND_FILE;
+use show_sheet::{Names, Regions};
 use std::env::{Env, FillError};
+use std::fmt;
 use std::rt::Files;
+use text::Out;
 
-fn put_plate<R: Print + Eprint>(rt: &R, buf: &mut [u8], cabinet: Cabinet, line: Line) -> usize
-    ensures { result ≤ length buf.old }
-{
-    let first = say::count(rt, buf, 0, b"cabinet", cabinet.0 as u64);
-    say::count(rt, buf, first, b", line", line.0 as u64)
+// The first job of a file that takes its regions from the catalogue and finds it ending before them.
+fn first_outside(file: &[u8], plate: Plate, catalogue: &[u32]) -> Option<usize> {
+    let shape = file_head::head(file, plate).ok()?;
+    let t = unpack::table_in(file, shape.edition, shape.tasks);
+    first_jobs::first_outside(&t, catalogue.len())
 }
 
-// The number of the first job of a file that takes its regions from the catalogue and finds it ending before them, or 0.
-fn first_outside(file: &[u8], catalogue: &[u32]) -> usize {
-    if file.len() < layout::SHORTEST {
-        return 0;
+fn put_outside<W: fmt::Write>(out: &mut W, job: usize, words: usize) -> fmt::Result {
+    write!(
+        out,
+        "refused {}: job {job} takes its regions from the catalogue, which",
+        numbers::number_of(Refusal::BadRegions)
+    )?;
+    match words {
+        0 => writeln!(out, " is empty; the third argument names one"),
+        _ => writeln!(out, " has only {words} numbers"),
     }
-    let edition = layout::edition_of(file);
-    let n = layout::task_count(file);
-    if MOST_TASKS < n {
-        return 0;
-    }
-    if file.len() < layout::record_from(edition, n) {
-        return 0;
-    }
-    let t = unpack::table_in(file, edition, n);
-    let rs = t.records;
-    first_jobs::first_outside(rs, n, catalogue.len())
 }
 
-fn put_outside<R: Print + Eprint>(
-    rt: &R,
-    buf: &mut [u8],
-    at: usize,
-    job: usize,
-    words: usize,
-) -> usize
-    requires { at ≤ length buf.old }
-    ensures { result ≤ length buf.old }
-{
-    let numbered = say::count(
-        rt,
-        buf,
-        at,
-        b"refused",
-        numbers::number_of(Refusal::BadRegions),
-    );
-    let named = say::count(rt, buf, numbered, b": job", job as u64);
-    let told = say::word(
-        rt,
-        buf,
-        named,
-        b" takes its regions from the catalogue, which",
-    );
-    if words == 0 {
-        return say::word(rt, buf, told, b" is empty; the third argument names one\n");
-    }
-    let counted = say::count(rt, buf, told, b" has only", words as u64);
-    say::word(rt, buf, counted, b" numbers\n")
-}
-
-// A job's regions break the rules: where that is because the catalogue ends before them, this is said.
-fn put_regions<R: Print + Eprint>(
-    rt: &R,
-    buf: &mut [u8],
-    at: usize,
-    file: &[u8],
-    catalogue: &[u32],
-) -> usize
-    requires { at ≤ length buf.old }
-    ensures { result ≤ length buf.old }
-{
-    let job = first_outside(file, catalogue);
-    if job == 0 {
-        return cells::put_refused(rt, buf, at, Refusal::BadRegions);
-    }
-    put_outside(rt, buf, at, job, catalogue.len())
-}
-
-fn put_refused<R: Print + Eprint>(
-    rt: &R,
-    buf: &mut [u8],
-    at: usize,
+// Where a job's regions break the rules because the catalogue ends before them, this is said.
+fn put_refused<W: fmt::Write>(
+    out: &mut W,
     r: Refusal,
     file: &[u8],
+    plate: Plate,
     catalogue: &[u32],
-) -> usize
-    requires { at ≤ length buf.old }
-    ensures { result ≤ length buf.old }
-{
-    let start = say::newline(rt, buf, at);
-    match r {
-        Refusal::BadRegions => put_regions(rt, buf, start, file, catalogue),
-        _ => cells::put_refused(rt, buf, start, r),
+) -> fmt::Result {
+    writeln!(out)?;
+    if r == Refusal::BadRegions {
+        if let Some(job) = first_outside(file, plate, catalogue) {
+            return put_outside(out, job, catalogue.len());
+        }
     }
+    writeln!(out, "{}", Reason(r))
 }
 
-// Edition 1 isn't said: its sheets stay as they were.
-fn put_edition<R: Print + Eprint>(rt: &R, buf: &mut [u8], at: usize, edition: u8) -> usize
-    requires { at ≤ length buf.old }
-    ensures { result ≤ length buf.old }
-{
-    if edition == layout::EDITION_ONE {
-        return at;
+// What stands in the first line behind the plate. Edition 1 isn't said: its sheets stay as they were.
+fn put_head<W: fmt::Write>(out: &mut W, reading: &Reading) -> fmt::Result {
+    if reading.edition != 1 {
+        write!(out, ", edition {}", reading.edition)?;
     }
-    say::count(rt, buf, at, b", edition", edition as u64)
+    write!(out, ", jobs {}\n\n", reading.table.n)
 }
 
-fn put_jobs<R: Print + Eprint>(rt: &R, buf: &mut [u8], at: usize, t: Table) -> usize
-    requires { at ≤ length buf.old }
-    ensures { result ≤ length buf.old }
-{
-    let counted = say::count(rt, buf, at, b", jobs", t.n as u64);
-    say::word(rt, buf, counted, b"\n\n")
-}
-
-// There is room for the words of any file, so that 12 is never the answer.
-fn put_file<'a, R: Print + Eprint>(
+// The sheet, or why there is none. There is room for the words of any file, so that 12 is never the answer.
+fn put_file<'a, R: Eprint, W: fmt::Write>(
     rt: &R,
-    buf: &mut [u8],
+    out: &mut W,
     input: &[u8],
     catalogue: &[u32],
-    cabinet_names: &'a [u8],
-    house_names: &'a [u8],
-) -> usize
-    ensures { result ≤ length buf.old }
-{
-    if input.len() < PLATE_BYTES {
-        return cells::put_refused(rt, buf, 0, Refusal::Short);
-    }
-    let cabinet = request::plate_cabinet(input);
-    let line = request::plate_line(input);
-    let plated = put_plate(rt, buf, cabinet, line);
-    let file = &input[PLATE_BYTES..];
+    names: Names<'a>,
+) -> fmt::Result {
+    let Some((plate, file)) = request::plate_and_file(input) else {
+        return writeln!(out, "{}", Reason(Refusal::Short));
+    };
+    write!(out, "cabinet {}, line {}", plate.cabinet.0, plate.line.0)?;
     let mut words = [0u32; MOST_WORDS];
-    let answer = reader::read(file, cabinet, line, catalogue, &mut words);
-    let outcome = answer.outcome;
-    match outcome {
-        Outcome::Refused(r) => put_refused(rt, buf, plated, r, file, catalogue),
-        Outcome::Done => {
-            let t = answer.table;
-            let rs = t.records;
-            unnamed::tell(rt, rs, first_jobs::jobs_of(t), cabinet_names, house_names);
-            let m = fronts::of_words(&words, answer.words);
-            let said = put_edition(rt, buf, plated, answer.edition);
-            let start = put_jobs(rt, buf, said, t);
-            show_sheet::put_sheet(
-                rt,
-                buf,
-                start,
-                t,
-                &words[..m],
-                catalogue,
-                cabinet_names,
-                house_names,
-            )
+    match reader::read(file, plate, catalogue, &mut words) {
+        Err(r) => put_refused(out, r, file, plate, catalogue),
+        Ok(reading) => {
+            unnamed::tell(rt, &reading.table, names);
+            put_head(out, &reading)?;
+            let own = &words[..fronts::front_len(&words, reading.words)];
+            show_sheet::put_sheet(out, reading.table, Regions { own, catalogue }, names)
         }
     }
 }
 
 // What the arguments name is read, and the sheet is written out.
 fn show<R: Files + Env + Print + Eprint>(rt: &R, input: &[u8]) {
-    let mut words = [0u32; MOST_NAMED];
-    let lent = arguments::read_catalogue(rt, 3, "the catalogue", &mut words);
-    if lent.failed {
+    let Ok(catalogue) = arguments::read_catalogue(rt, 3, "the catalogue") else {
         return;
-    }
-    let w = lent.words;
-    let mut cabinet_names = [0u8; LIST_AND_ONE];
-    let c = arguments::read_names(rt, 1, "the cabinet's name list", &mut cabinet_names);
-    let mut house_names = [0u8; LIST_AND_ONE];
-    let h = arguments::read_names(rt, 2, "the house's name list", &mut house_names);
-    let mut buf = io::large_buffer();
-    let end = put_file(
-        rt,
-        &mut buf,
-        input,
-        &words[..w],
-        &cabinet_names[..c],
-        &house_names[..h],
-    );
-    text::flush(rt, &buf, end);
+    };
+    let mut cabinet = [0u8; LIST_AND_ONE];
+    let mut house = [0u8; LIST_AND_ONE];
+    let names = Names {
+        cabinet: arguments::read_names(rt, 1, "the cabinet's name list", &mut cabinet),
+        house: arguments::read_names(rt, 2, "the house's name list", &mut house),
+    };
+    let mut out = Out::new(rt);
+    // Where either fails, the reason has been told.
+    let _ = put_file(rt, &mut out, input, catalogue.as_slice(), names);
+    let _ = out.flush();
 }
 
 // Whether there is an argument behind the third.
 fn has_fourth<R: Env>(rt: &R) -> bool {
     let mut none = [0u8; 1];
-    match rt.arg(4, &mut none) {
-        Err(FillError::NotPresent) => false,
-        _ => true,
-    }
+    !matches!(rt.arg(4, &mut none), Err(FillError::NotPresent))
 }
 
 // Standard input comes first: where it is closed, a file that is opened would get its number.
 fn main(rt: HostRuntime) {
     let mut input = [0u8; PLATE_AND_FILE];
-    let got = intake::read_whole(&mut rt.stdin(), &mut input);
-    if let Some(error) = got.failed {
-        text::fail(&rt, "standard input", error);
-        return;
+    match intake::read_whole(&mut rt.stdin(), &mut input) {
+        Ok(n) => {
+            if has_fourth(&rt) {
+                let _ = eprintln!(rt; "arguments past the third are not looked at");
+            }
+            show(&rt, &input[..n]);
+        }
+        Err(unread) => text::fail(&rt, "standard input", unread.error),
     }
-    if has_fourth(&rt) {
-        let _ = eprintln!(rt; "arguments past the third are not looked at");
-    }
-    let n = got.bytes;
-    show(&rt, &input[..n]);
 }

@@ -1,7 +1,7 @@
--- Where the column of the jitters stands (document 02, item 8).
+-- The columns in their order, and where the column of the jitters stands (document 02, item 8).
 use Prim.Native.Nat.{ℕ, ◌<◌}
-use mathlib.Core.Path.{◌≡◌, ap}
-use mathlib.Core.Bool.{false, not}
+use mathlib.Core.Path.{◌≡◌, refl, ap}
+use mathlib.Core.Bool.{true, false, not}
 use mathlib.Core.Logic.{◌↔◌}
 use native.Mathlib.Omega.{arith}
 use borrow.Author.Tests.{not-false, eqb-true, eq-eqb, ltb-false}
@@ -9,14 +9,34 @@ use lib.Dec.{ltb, eqb}
 use Rattle.paper.proofs.Extremes.{lowest_none, none_passes}
 use Rattle.show_facts.specs.Facts.{job_of}
 use Rattle.first_jobs.specs.Firsts.{jobs, first_jitter}
-use Rattle.show_cells.specs.Cells.{column_stands}
+use Rattle.show_cells.specs.Cells.{columns, column_stands}
+use Rattle.show_cells.specs.declared.Column.{Column}
+use Rattle.show_cells.specs.declared.Column.TheVariants.{Cost, Period, Deadline, Jitter, Priority, Threshold, Time, Slack, Tolerance, Length, Fit, Points}
+use Rattle.show_cells.specs.declared.TheConstants.{COLUMNS}
 use Rattle.show_facts.specs.declared.Facts.{Facts}
 
+pub columns_in_order : COLUMNS ≡ columns
+columns_in_order = refl
+
 -- the column is left out exactly where every jitter is 0; every other column stands (`others_stand`)
-pub jitters_left_out : (f : Facts) → (column_stands f 3 ≡ false) ↔ ((k : ℕ) → k < jobs f → (job_of f k).jitter ≡ 0)
+pub jitters_left_out : (f : Facts) → (column_stands f Jitter ≡ false) ↔ ((k : ℕ) → k < jobs f → (job_of f k).jitter ≡ 0)
 jitters_left_out f = (
   λ e k l.
       let none : first_jitter f ≡ 0 = omega (arith, ltb-false 0 (first_jitter f) e) in
       eqb-true _ 0 (not-false _ (none_passes (λ j. not (eqb (job_of f j).jitter 0)) (jobs f) none k l)),
   λ h. ap (ltb 0) (lowest_none (λ j. not (eqb (job_of f j).jitter 0)) (jobs f) (λ k l. ap not (eq-eqb _ 0 (h k l)))),
 )
+
+pub others_stand : (f : Facts) (column : Column) → (column ≡ Jitter → ⊥) → true ≡ column_stands f column
+others_stand f Jitter h = absurd (h refl)
+others_stand f Cost h = refl
+others_stand f Period h = refl
+others_stand f Deadline h = refl
+others_stand f Priority h = refl
+others_stand f Threshold h = refl
+others_stand f Time h = refl
+others_stand f Slack h = refl
+others_stand f Tolerance h = refl
+others_stand f Length h = refl
+others_stand f Fit h = refl
+others_stand f Points h = refl

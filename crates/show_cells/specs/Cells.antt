@@ -1,32 +1,28 @@
 -- The cells of a sheet's table, out of the calls' answers alone, and which column is left out.
-use Rattle.std.specs.Prelude.{ℕ, suc, ◌-◌, Bool, true, false, cond, List, [], ◌∷◌, leb, ltb, eqb, ℤ, pos, negsuc, get_or}
-use Rattle.paper.specs.Answers.{when_done}
-use Rattle.paper.specs.declared.Outcome.{Outcome}
-use Rattle.paper.specs.declared.Time.{Time}
-use Rattle.paper.specs.declared.TicksAnswer.{TicksAnswer}
+use Rattle.std.specs.Prelude.{ℕ, suc, ◌-◌, Bool, true, false, cond, List, [], ◌∷◌, leb, ltb, eqb, ℤ, pos, negsuc, get_or, map, Option, Some, None, Result, Ok, Err}
+use Rattle.paper.specs.Answers.{no_time}
+use Rattle.paper.specs.declared.Refusal.{Refusal}
 use Rattle.paper.specs.declared.Shown.{Shown}
 use Rattle.paper.specs.declared.Shown.TheVariants.{NotShown, Passes}
 use Rattle.cells.specs.declared.Cell.{Cell}
-use Rattle.show_facts.specs.Facts.{job_of, time_at, shown_at}
+use Rattle.show_facts.specs.Facts.{job_of}
 use Rattle.show_facts.specs.declared.Facts.{Facts}
 use Rattle.first_jobs.specs.Firsts.{first_jitter}
-
--- what a call answers of job k + 1 in ticks
-abbrev pub ticks_at : TicksAnswer → ℕ → ℤ
-ticks_at a k = get_or a.ticks k (pos 0)
+use Rattle.show_cells.specs.declared.Column.{Column}
+use Rattle.show_cells.specs.declared.Column.TheVariants.{Cost, Period, Deadline, Jitter, Priority, Threshold, Time, Slack, Tolerance, Length, Fit, Points}
 
 -- A priority or a threshold of 0 is none
 abbrev pub place_cell : ℕ → Cell
 place_cell x = cond (eqb x 0) Cell.Dash (Cell.Number x)
 
-abbrev pub time_cell : Time → Cell
-time_cell (Time.At x) = Cell.Number x
-time_cell Time.Beyond = Cell.Beyond
+abbrev pub time_cell : Option ℕ → Cell
+time_cell (Some x) = Cell.Number x
+time_cell None = Cell.Beyond
 
 -- what is left from the response time to the deadline
-abbrev pub slack_cell : Time → ℕ → Cell
-slack_cell (Time.At x) d = cond (leb x d) (Cell.Number (d - x)) (Cell.Minus (x - d))
-slack_cell Time.Beyond d = Cell.Dash
+abbrev pub slack_cell : Option ℕ → ℕ → Cell
+slack_cell (Some x) d = cond (leb x d) (Cell.Number (d - x)) (Cell.Minus (x - d))
+slack_cell None d = Cell.Dash
 
 abbrev pub ticks_cell : ℤ → Cell
 ticks_cell (pos x) = Cell.Number x
@@ -40,26 +36,36 @@ abbrev pub verdict_cell : Shown → Cell
 verdict_cell Passes = Cell.Passes
 verdict_cell NotShown = Cell.NotShown
 
--- a cell that a call answers; a dash where it is turned away
-abbrev pub shown : Outcome → Cell → Cell
-shown o x = when_done o x Cell.Dash
+-- a cell of what a call answers; a dash where it is turned away
+module _ {A : Type 0} where
+  abbrev pub shown : Result A Refusal → (A → Cell) → Cell
+  shown (Ok a) cell = cell a
+  shown (Err r) cell = Cell.Dash
 
--- the cells of job k + 1, from left to right: cost, period, deadline, jitter, priority, threshold, response time, slack, tolerance, length, fit, points
+-- the cell of job k + 1 in a column
+abbrev pub cell_of : Facts → ℕ → Column → Cell
+cell_of f k Cost = Cell.Number (job_of f k).cost
+cell_of f k Period = Cell.Number (job_of f k).period
+cell_of f k Deadline = Cell.Number (job_of f k).deadline
+cell_of f k Jitter = Cell.Number (job_of f k).jitter
+cell_of f k Priority = place_cell (job_of f k).priority
+cell_of f k Threshold = place_cell (job_of f k).threshold
+cell_of f k Time = shown f.times (λ times. time_cell (get_or times k no_time).time)
+cell_of f k Slack = shown f.times (λ times. slack_cell (get_or times k no_time).time (job_of f k).deadline)
+cell_of f k Tolerance = shown f.tolerances (λ ticks. ticks_cell (get_or ticks k (pos 0)))
+cell_of f k Length = shown f.lengths (λ ticks. ticks_cell (get_or ticks k (pos 0)))
+cell_of f k Fit = shown f.fits (λ fits. fit_cell (get_or fits k false))
+cell_of f k Points = shown f.points (λ points. verdict_cell (get_or points k NotShown))
+
+-- from left to right
+abbrev pub columns : List Column
+columns = Cost ∷ Period ∷ Deadline ∷ Jitter ∷ Priority ∷ Threshold ∷ Time ∷ Slack ∷ Tolerance ∷ Length ∷ Fit ∷ Points ∷ []
+
+-- the cells of job k + 1
 abbrev pub cells_of : Facts → ℕ → List Cell
-cells_of f k =
-    Cell.Number (job_of f k).cost ∷
-    Cell.Number (job_of f k).period ∷
-    Cell.Number (job_of f k).deadline ∷
-    Cell.Number (job_of f k).jitter ∷
-    place_cell (job_of f k).priority ∷
-    place_cell (job_of f k).threshold ∷
-    shown f.times.outcome (time_cell (time_at f.times k)) ∷
-    shown f.times.outcome (slack_cell (time_at f.times k) (job_of f k).deadline) ∷
-    shown f.tolerances.outcome (ticks_cell (ticks_at f.tolerances k)) ∷
-    shown f.lengths.outcome (ticks_cell (ticks_at f.lengths k)) ∷
-    shown f.lengths.outcome (fit_cell (get_or f.fits k false)) ∷
-    shown f.points.outcome (verdict_cell (shown_at f.points k)) ∷ []
+cells_of f k = map (cell_of f k) columns
 
--- the jitters' column, 3, is left out where no job has one
-abbrev pub column_stands : Facts → ℕ → Bool
-column_stands f column = cond (eqb column 3) (ltb 0 (first_jitter f)) true
+-- the jitters' column is left out where no job has one
+abbrev pub column_stands : Facts → Column → Bool
+column_stands f Jitter = ltb 0 (first_jitter f)
+column_stands f _ = true

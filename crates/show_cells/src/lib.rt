@@ -2,52 +2,70 @@
 // calls' answers.
 #![tactic(auto)]
 
-ghost use Rattle.std.specs.Prelude.{◌<◌, ◌≡◌, false, get_or};
+ghost use Rattle.std.specs.Prelude.{◌<◌, ◌≡◌};
+ghost use Rattle.std.specs.Result.{result_unwrap_or};
 ghost use Rattle.paper.specs.Numbers.{most_tasks};
-ghost use Rattle.show_facts.specs.Facts.{time_at, shown_at};
-ghost use Rattle.show_cells.specs.Cells.{ticks_at, place_cell, time_cell, slack_cell, ticks_cell, fit_cell, verdict_cell, shown, cells_of, column_stands};
+ghost use Rattle.show_cells.specs.Cells.{place_cell, time_cell, slack_cell, ticks_cell, fit_cell, verdict_cell, cell_of, column_stands};
 
 use cells::Cell;
-use first_jobs::Asked;
-use paper::{MOST_TASKS, Outcome, PointsAnswer, Shown, TicksAnswer, Time, TimesAnswer};
+use paper::{Refusal, Shown};
 use show_facts::Facts;
 
-// The columns of numbers: cost, period, deadline, jitter, priority, threshold, response time, slack, tolerance, length, fit, points.
-pub const COLUMNS: usize = 12;
+// The columns of numbers and words, behind the one of names and before the one of regions.
+#[derive(Clone, Copy, Debug, PartialEq, Eq)]
+pub enum Column {
+    Cost,
+    Period,
+    Deadline,
+    Jitter,
+    Priority,
+    Threshold,
+    Time,
+    Slack,
+    Tolerance,
+    Length,
+    Fit,
+    Points,
+}
 
-pub const JITTERS: usize = 3;
+// From left to right.
+pub const COLUMNS: [Column; 12] = [
+    Column::Cost,
+    Column::Period,
+    Column::Deadline,
+    Column::Jitter,
+    Column::Priority,
+    Column::Threshold,
+    Column::Time,
+    Column::Slack,
+    Column::Tolerance,
+    Column::Length,
+    Column::Fit,
+    Column::Points,
+];
 
 fn place_cell(x: u32) -> Cell
     ensures { result ≡ place_cell x }
 {
-    if x == 0 {
-        Cell::Dash
-    } else {
-        Cell::Number(x as u64)
+    match x {
+        0 => Cell::Dash,
+        _ => Cell::Number(u64::from(x)),
     }
 }
 
-fn time_cell(time: Time) -> Cell
+fn time_cell(time: Option<u64>) -> Cell
     ensures { result ≡ time_cell time }
 {
-    match time {
-        Time::At(x) => Cell::Number(x),
-        Time::Beyond => Cell::Beyond,
-    }
+    time.map_or(Cell::Beyond, |x| Cell::Number(x))
 }
 
-fn slack_cell(time: Time, deadline: u64) -> Cell
+fn slack_cell(time: Option<u64>, deadline: u64) -> Cell
     ensures { result ≡ slack_cell time deadline }
 {
     match time {
-        Time::At(x) => {
-            if x <= deadline {
-                Cell::Number(deadline - x)
-            } else {
-                Cell::Minus(x - deadline)
-            }
-        }
-        Time::Beyond => Cell::Dash,
+        Some(x) if x <= deadline => Cell::Number(deadline - x),
+        Some(x) => Cell::Minus(x - deadline),
+        None => Cell::Dash,
     }
 }
 
@@ -67,59 +85,6 @@ fn fit_cell(fits: bool) -> Cell
     if fits { Cell::Yes } else { Cell::No }
 }
 
-fn ticks_at(answer: TicksAnswer, k: usize) -> i64
-    requires { k < most_tasks }
-    ensures { result ≡ ticks_at answer k }
-{
-    let ticks = answer.ticks;
-    ticks[k]
-}
-
-// A cell of a call's answer.
-fn shown_cell(outcome: Outcome, cell: Cell) -> Cell
-    ensures { result ≡ shown outcome cell }
-{
-    match outcome {
-        Outcome::Done => cell,
-        Outcome::Refused(_) => Cell::Dash,
-    }
-}
-
-fn response_cell(answer: TimesAnswer, k: usize) -> Cell
-    requires { k < most_tasks }
-    ensures { result ≡ shown answer.outcome (time_cell (time_at answer k)) }
-{
-    let outcome = answer.outcome;
-    shown_cell(outcome, time_cell(show_facts::time_at(answer, k)))
-}
-
-fn left_cell(answer: TimesAnswer, deadline: u64, k: usize) -> Cell
-    requires { k < most_tasks }
-    ensures { result ≡ shown answer.outcome (slack_cell (time_at answer k) deadline) }
-{
-    let outcome = answer.outcome;
-    shown_cell(
-        outcome,
-        slack_cell(show_facts::time_at(answer, k), deadline),
-    )
-}
-
-fn answer_cell(answer: TicksAnswer, k: usize) -> Cell
-    requires { k < most_tasks }
-    ensures { result ≡ shown answer.outcome (ticks_cell (ticks_at answer k)) }
-{
-    let outcome = answer.outcome;
-    shown_cell(outcome, ticks_cell(ticks_at(answer, k)))
-}
-
-fn fits_cell(lengths: TicksAnswer, fits: [bool; MOST_TASKS], k: usize) -> Cell
-    requires { k < most_tasks }
-    ensures { result ≡ shown lengths.outcome (fit_cell (get_or fits k false)) }
-{
-    let outcome = lengths.outcome;
-    shown_cell(outcome, fit_cell(show_facts::fit_at(fits, k)))
-}
-
 fn verdict_cell(verdict: Shown) -> Cell
     ensures { result ≡ verdict_cell verdict }
 {
@@ -129,46 +94,43 @@ fn verdict_cell(verdict: Shown) -> Cell
     }
 }
 
-fn points_cell(answer: PointsAnswer, k: usize) -> Cell
+// The cell of job k + 1, or the refusal of the call that would give it.
+fn answer(f: &Facts, k: usize, column: Column) -> Result<Cell, Refusal>
     requires { k < most_tasks }
-    ensures { result ≡ shown answer.outcome (verdict_cell (shown_at answer k)) }
+    ensures { result_unwrap_or result Cell.Dash ≡ cell_of f.now k column }
 {
-    let outcome = answer.outcome;
-    shown_cell(outcome, verdict_cell(show_facts::shown_at(answer, k)))
+    let r = &f.table.records[k];
+    let cell = match column {
+        Column::Cost => Cell::Number(u64::from(r.cost)),
+        Column::Period => Cell::Number(u64::from(r.period)),
+        Column::Deadline => Cell::Number(u64::from(r.deadline)),
+        Column::Jitter => Cell::Number(u64::from(r.jitter)),
+        Column::Priority => place_cell(r.priority),
+        Column::Threshold => place_cell(r.threshold),
+        Column::Time => time_cell(f.times?[k].time),
+        Column::Slack => slack_cell(f.times?[k].time, u64::from(r.deadline)),
+        Column::Tolerance => ticks_cell(f.tolerances?[k]),
+        Column::Length => ticks_cell(f.lengths?[k]),
+        Column::Fit => fit_cell(f.fits?[k]),
+        Column::Points => verdict_cell(f.points?[k]),
+    };
+    Ok(cell)
 }
 
-pub fn cell(f: Facts, k: usize, column: usize) -> Cell
+// The cell of job k + 1: a dash where the call that would give it turned the table away.
+pub fn cell(f: &Facts, k: usize, column: Column) -> Cell
     requires { k < most_tasks }
-    ensures { result ≡ get_or (cells_of f k) column Cell.Dash }
+    ensures { result ≡ cell_of f.now k column }
 {
-    let r = show_facts::record_of(f.table, k);
-    match column {
-        0 => Cell::Number(r.cost as u64),
-        1 => Cell::Number(r.period as u64),
-        2 => Cell::Number(r.deadline as u64),
-        JITTERS => Cell::Number(r.jitter as u64),
-        4 => place_cell(r.priority),
-        5 => place_cell(r.threshold),
-        6 => response_cell(f.times, k),
-        7 => left_cell(f.times, r.deadline as u64, k),
-        8 => answer_cell(f.tolerances, k),
-        9 => answer_cell(f.lengths, k),
-        10 => {
-            let fits = f.fits;
-            fits_cell(f.lengths, fits, k)
-        }
-        11 => points_cell(f.points, k),
-        _ => Cell::Dash,
-    }
+    answer(f, k, column).unwrap_or(Cell::Dash)
 }
 
 // The column of the jitters is left out where every jitter is 0.
-pub fn column_stands(f: Facts, column: usize) -> bool
-    ensures { result ≡ column_stands f column }
+pub fn column_stands(f: &Facts, column: Column) -> bool
+    ensures { result ≡ column_stands f.now column }
 {
-    if column == JITTERS {
-        let n = first_jobs::jobs_of(f.table);
-        return 0 < first_jobs::first_failing(f, Asked::Jitter, n);
+    match column {
+        Column::Jitter => first_jobs::first_jitter(f).is_some(),
+        _ => true,
     }
-    true
 }

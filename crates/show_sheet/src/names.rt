@@ -1,55 +1,35 @@
-// A job's name out of the two lists, or its number where no list has it.
-ghost use Rattle.std.specs.Prelude.{◌≤◌, length};
+// A job's name out of the two name lists.
 
-use paper::Outcome;
-use say::Form;
+use say::Readable;
+use std::fmt;
 
-// How many characters a name takes.
-pub fn width<'a>(number: u32, cabinet: &'a [u8], house: &'a [u8]) -> usize {
-    let outcome = parts::name_outcome(number, cabinet, house);
-    match outcome {
-        Outcome::Refused(_) => 1 + cells::digits(number as u64),
-        Outcome::Done => {
-            let name = parts::name_bytes(number, cabinet, house);
-            name.len()
+#[derive(Clone, Copy)]
+pub struct Names<'a> {
+    pub cabinet: &'a [u8],
+    pub house: &'a [u8],
+}
+
+impl<'a> Names<'a> {
+    pub fn name(self, number: u32) -> Name<'a> {
+        Name {
+            names: self,
+            number,
         }
     }
 }
 
-fn put_name<'a, R: Print + Eprint>(
-    rt: &R,
-    buf: &mut [u8],
-    at: usize,
+// It prints itself: where no list has it, by its number.
+#[derive(Clone, Copy)]
+pub struct Name<'a> {
+    names: Names<'a>,
     number: u32,
-    cabinet: &'a [u8],
-    house: &'a [u8],
-) -> usize
-    requires { at ≤ length buf.old }
-    ensures { result ≤ length buf.old }
-{
-    let outcome = parts::name_outcome(number, cabinet, house);
-    match outcome {
-        Outcome::Refused(_) => say::marked(rt, buf, at, b'#', number as u64),
-        Outcome::Done => {
-            let name = parts::name_bytes(number, cabinet, house);
-            say::bytes(rt, buf, at, Form::Character, name)
-        }
-    }
 }
 
-// A name at the left end of a column.
-pub fn put<'a, R: Print + Eprint>(
-    rt: &R,
-    buf: &mut [u8],
-    at: usize,
-    number: u32,
-    cabinet: &'a [u8],
-    house: &'a [u8],
-    column: usize,
-) -> usize
-    requires { at ≤ length buf.old }
-    ensures { result ≤ length buf.old }
-{
-    let named = put_name(rt, buf, at, number, cabinet, house);
-    cells::pad(rt, buf, named, width(number, cabinet, house), column)
+impl<'a> fmt::Display for Name<'a> {
+    fn fmt<W: fmt::Write>(&self, f: &mut fmt::Formatter<W>) -> fmt::Result {
+        match parts::name(self.number, self.names.cabinet, self.names.house) {
+            Ok(name) => write!(f, "{}", Readable(name)),
+            Err(_) => write!(f, "#{}", self.number),
+        }
+    }
 }

@@ -1,70 +1,121 @@
-// Text put into a lent buffer, which a program writes out in large pieces. What doesn't fit is left out: a caller keeps
-// room for what it puts (`room`).
-//
-// The last place of the buffer stays free, so that the buffer's end, as a place, can say that a write failed. From there
-// nothing is put and nothing is written any more: no text ever follows a piece that was lost.
+// Text for standard output, which is written out in large pieces: twenty to seventy times quicker than a call for each line.
 #![tactic(auto)]
 
-ghost use Rattle.std.specs.Prelude.{◌≡◌, ◌≤◌, eqb, length};
+ghost use Rattle.std.specs.Prelude.{◌+◌, ◌≡◌, ◌≤◌, ◌<◌, ◌↔◌, IsOk, IsTrue, OnErr, OnOk, eqb, length};
 ghost use Rattle.text.specs.Places.{Put, Written};
+ghost use Rattle.text.specs.declared.TheConstants.{SIZE};
 
+use std::fmt;
 use std::io::{Error, Write};
+
+// How many places the buffer has.
+const SIZE: usize = 65536;
 
 // No error has more words.
 const MOST_TOLD: usize = 256;
 
-// One byte at `at`. Each function here answers the place after what it put.
-pub fn put(buf: &mut [u8], at: usize, b: u8) -> usize
-    requires { at ≤ length buf.old }
-    ensures { Put (length buf.old) at result }
-{
-    if buf.len() - at <= 1 {
-        return at;
+// Where text goes, by `write!`. The last place of the buffer stays free, so that the buffer's end, as a place, can say that a
+// write failed. From there nothing is put and nothing is written any more: no text ever follows a piece that was lost.
+#[derive(Drop)]
+pub struct Out<'a, R> {
+    rt: &'a R,
+    buf: [u8; SIZE],
+    // The place after what was put.
+    pub at: usize,
+    pub ghost inside: { at ≤ SIZE },
+}
+
+impl<'a, R: Print + Eprint> Out<'a, R> {
+    pub fn new(rt: &'a R) -> Self
+        ensures { result.at ≡ 0 }
+    {
+        Out {
+            rt,
+            buf: [0; SIZE],
+            at: 0,
+        }
     }
-    buf[at] = b;
-    at + 1
-}
 
-pub fn put_all(buf: &mut [u8], at: usize, text: &[u8]) -> usize
-    requires { at ≤ length buf.old }
-    ensures { Put (length buf.old) at result }
-{
-    let mut end = at;
-    let mut i: usize = 0;
-    while i < text.len() {
-        end = put(buf, end, text[i]);
-        i += 1;
+    fn is_lost(&self) -> bool
+        ensures { result ≡ eqb self.now.at SIZE }
+    {
+        self.at == SIZE
     }
-    end
-}
 
-// A number in decimal.
-pub fn put_decimal(buf: &mut [u8], at: usize, x: u64) -> usize
-    requires { at ≤ length buf.old }
-    ensures { Put (length buf.old) at result }
-{
-    if x < 10 {
-        return put(buf, at, 48 + (x % 10) as u8);
+    // Writes out what was put. Where that fails it says so on standard error, and the text is lost, now and from then on.
+    pub fn flush(&mut self) -> fmt::Result
+        ensures written { Written SIZE self.old.at self.new.at }
+        ensures ok { OnOk result (self.new.at ≡ 0) }
+        ensures err { OnErr result (self.new.at ≡ SIZE) }
+    {
+        if self.is_lost() {
+            return Err(fmt::Error);
+        }
+        match self.rt.write_all(&self.buf[..self.at]) {
+            Ok(()) => {
+                self.at = 0;
+                Ok(())
+            }
+            Err(error) => {
+                self.at = SIZE;
+                fail(self.rt, "standard output", error);
+                Err(fmt::Error)
+            }
+        }
     }
-    let mut digits = [0u8; 20];
-    let k = io::decimal(x, &mut digits);
-    put_all(buf, at, &digits[..k])
+
+    fn has_room(&self, n: usize) -> bool
+        ensures { IsTrue result ↔ (self.now.at + n < SIZE) }
+    {
+        n < SIZE - self.at
+    }
+
+    // Puts text where there is room for it.
+    fn put(&mut self, text: &[u8])
+        requires { self.old.at + length text.now < SIZE }
+        ensures place { Put SIZE self.old.at self.new.at }
+        ensures count { self.new.at ≡ self.old.at + length text.now }
+    {
+        let end = self.at + text.len();
+        self.buf[self.at..end].copy_from_slice(text);
+        self.at = end;
+    }
+
+    // What has no room is put where the text before it was written out.
+    #[cold]
+    #[inline(never)]
+    fn write_pieces(&mut self, text: &[u8]) -> fmt::Result
+        ensures ok { OnOk result ((self.old.at < SIZE) × (self.new.at < SIZE)) }
+        ensures err { OnErr result (self.new.at ≡ SIZE) }
+    {
+        if self.is_lost() {
+            return Err(fmt::Error);
+        }
+        for piece in text.chunks(SIZE - 1) {
+            if !self.has_room(piece.len()) {
+                self.flush()?;
+            }
+            self.put(piece);
+        }
+        Ok(())
+    }
 }
 
-// A mark and a number behind it.
-pub fn put_marked(buf: &mut [u8], at: usize, mark: u8, x: u64) -> usize
-    requires { at ≤ length buf.old }
-    ensures { Put (length buf.old) at result }
-{
-    let end = put(buf, at, mark);
-    put_decimal(buf, end, x)
-}
+impl<'a, R: Print + Eprint> fmt::Write for Out<'a, R> {
+    // Nothing was lost before, and nothing is.
+    ghost write_str_gives = { λ old _ new. (old.at < SIZE) × (new.at < SIZE) };
 
-// Whether a write failed.
-pub fn lost(buf: &[u8], at: usize) -> bool
-    ensures { result ≡ eqb at (length buf.now) }
-{
-    at == buf.len()
+    fn write_str(&mut self, s: &str) -> fmt::Result
+        ensures ok { IsOk result → (self.old.at < SIZE) × (self.new.at < SIZE) }
+        ensures err { OnErr result (self.new.at ≡ SIZE) }
+    {
+        let text = s.as_bytes();
+        if self.has_room(text.len()) {
+            self.put(text);
+            return Ok(());
+        }
+        self.write_pieces(text)
+    }
 }
 
 // Says on a line of standard error what failed and why, in the system's words.
@@ -92,33 +143,4 @@ fn without_number(all: &str) -> &str {
         Some((words, _)) => words,
         None => all,
     }
-}
-
-// Writes out what stands in the buffer, and answers where to go on: at its start. Where the write fails it says so, and the
-// answer is the buffer's end, now and from then on.
-pub fn flush<R: Print + Eprint>(rt: &R, buf: &[u8], at: usize) -> usize
-    requires { at ≤ length buf.now }
-    ensures { Written (length buf.now) at result }
-{
-    if at == buf.len() {
-        return at;
-    }
-    match rt.write_all(&buf[..at]) {
-        Ok(()) => 0,
-        Err(error) => {
-            fail(rt, "standard output", error);
-            buf.len()
-        }
-    }
-}
-
-// Writes the buffer's front out where no more than `room` places are left, and answers where to go on.
-pub fn room<R: Print + Eprint>(rt: &R, buf: &[u8], at: usize, room: usize) -> usize
-    requires { at ≤ length buf.now }
-    ensures { Written (length buf.now) at result }
-{
-    if buf.len() - at <= room {
-        return flush(rt, buf, at);
-    }
-    at
 }

@@ -1,9 +1,9 @@
 -- A stretch is found by asking one task after the other; a walk goes from stretch to stretch up to the last t.
-use Prim.Native.Nat.{ℕ, ◌+◌, ◌-◌, ◌*◌, ◌/◌, ◌≤◌, ◌<◌, ◌^◌, min}
+use Prim.Native.Nat.{ℕ, ◌+◌, ◌-◌, ◌*◌, ◌/◌, ◌≤◌, ◌<◌, min}
 use mathlib.Core.Path.{◌≡◌, sym, ap₂, ◌∙◌}
-use mathlib.Core.Bool.{Bool, cond}
+use mathlib.Core.Bool.{Bool, true, false, cond}
 use native.Mathlib.Omega.{arith}
-use native.Mathlib.Nat.{mul-le-mul, mul-le-mul_right, div-le_self, one-mul}
+use native.Mathlib.Nat.{mul-le-mul, div-le_self}
 use borrow.Author.Count.{below_more}
 use borrow.Author.Tests.{ltb-true, ltb-false}
 use lib.Dec.{leb, ltb}
@@ -17,31 +17,16 @@ use Rattle.laws.proofs.Every.{sum_more}
 use Rattle.laws.proofs.Sums.{sum_none}
 use Rattle.laws.proofs.Steps.{step_after, before_stays, load_stays, slack_rises, largest_first, largest_step}
 use Rattle.columns.specs.Columns.{Ranged}
-use Rattle.tolerance.specs.Walk.{most_part, most_need, value_of, larger_of, with_task, last_instant, Stretch, Walked, Tolerated}
-use Rattle.tolerance.specs.declared.Slack.{Slack}
+use Rattle.tolerance.specs.Bounds.{most_part}
+use Rattle.tolerance.specs.Walk.{jobs_by, value_of, larger_of, last_instant, Stretch, Walked}
+use Rattle.tolerance.specs.declared.slack.Slack.{Slack}
 
 -- What one task adds to a need: m jobs, which are 1 in the code, and one more for each t in x. For any m, so that a wrong number of jobs is refused for what it counts, and not as too large.
 pub part_bound : (m x t c : ℕ) → m + x ≤ 3 * most_ticks → c ≤ most_ticks → (m + x / t) * c ≤ most_part
 part_bound m x t c h k = mul-le-mul {n₂ = 3 * most_ticks} {m₂ = most_ticks} (omega (arith, div-le_self x t)) k
 
--- No number on the way is too large,
-pub jobs_fit : (m x t : ℕ) → m + x ≤ 3 * most_ticks → m + x / t < 2 ^ 64
-jobs_fit m x t h = omega (arith, div-le_self x t)
-
-pub part_fits : (m x t c : ℕ) → m + x ≤ 3 * most_ticks → c ≤ most_ticks → (m + x / t) * c < 2 ^ 64
-part_fits m x t c h k = omega (arith, part_bound m x t c h k)
-
-pub need_fits : (m x t c need : ℕ) → m + x ≤ 3 * most_ticks → c ≤ most_ticks → need ≤ most_need → need + (m + x / t) * c < 2 ^ 64
-need_fits m x t c need h k l = omega (arith, part_bound m x t c h k)
-
--- and none is below zero: a stretch ends past the jitter.
-pub end_past : (m x t j : ℕ) → 1 ≤ m → j < t → j ≤ (m + x / t) * t
-end_past m x t j h k =
-    let jobs : 1 ≤ m + x / t = omega arith in
-    omega (arith, mul-le-mul_right t jobs, one-mul t)
-
 -- the first j of the tasks
-abbrev up_to : Tasks → ℕ → Tasks
+abbrev pub up_to : Tasks → ℕ → Tasks
 up_to y j = record { n = j; c = y.c; t = y.t; d = y.d; j = y.j }
 
 module _ (y : Tasks) (set : ℕ → Bool) (f : ℕ → ℕ) where
@@ -60,13 +45,13 @@ larger_value a b =
     rw (sub_order a.at a.need b.at b.need)
     (by_test (λ r. value_of r ≡ cond (leb (a.at + b.need) (b.at + a.need)) (value_of b) (value_of a)) (leb (a.at + b.need) (b.at + a.need)) (λ e. rw e) (λ e. rw e))
 
-larger_either : (P : Slack → Type 0) (a b : Slack) → P a → P b → P (larger_of a b)
-unfolding larger_of
-larger_either P a b h k = by_test P (leb (a.at + b.need) (b.at + a.need)) (λ e. k) (λ e. h)
-
 -- how far a walk goes
-pub last_near : {y : Tasks} → Ranged y → {i : ℕ} → i < y.n → {last : ℕ} → last ≡ last_instant (y.d i) (y.j i) → (0 < last) × (last ≤ most_ticks)
-last_near r {i} l e = let d = r.deadlines i l in (omega arith, omega (arith, d.0, d.1))
+pub last_near : {y : Tasks} → Ranged y → {i : ℕ} → i < y.n → {d j last : ℕ} → d ≡ y.d i → j ≡ y.j i → last ≡ last_instant d j
+    → (last ≡ last_instant (y.d i) (y.j i)) × (0 < last) × (last ≤ most_ticks)
+last_near r {i} l d j e =
+    let q = r.deadlines i l in
+    let last = rw (d, j) at e in
+    (last, omega (arith, last), omega (arith, last, q.0, q.1))
 
 module _ {y : Tasks} {a : Assignment} (ranged : Ranged y) {i : ℕ} (inside : i < y.n) {last : ℕ} (near : last ≤ most_ticks) where
   -- a stretch of the first j tasks, and of one more
@@ -80,25 +65,31 @@ module _ {y : Tasks} {a : Assignment} (ranged : Ranged y) {i : ℕ} (inside : i 
         small = omega (arith, (ranged.costs i inside).1);
       }
 
-  pub stretch_more : {x j : ℕ} {s : Slack} → x < last → j < y.n → Stretch (up_to y j) a i last x s
-      → Stretch (up_to y (j + 1)) a i last x (with_task s (ltb (a.p j) (a.p i)) (y.c j) (y.t j) (y.j j) x)
-  unfolding with_task by
-  stretch_more {x} {j} {s} h l w =
+  -- where that one is above i, it ends the stretch and adds to the need
+  pub stretch_more : {x j c t late : ℕ} {s r : Slack} → x < last → j < y.n → Stretch (up_to y j) a i last x s → ltb (a.p j) (a.p i) ≡ true
+      → c ≡ y.c j → t ≡ y.t j → late ≡ y.j j → r.at ≡ min s.at (jobs_by t late x * t - late) → r.need ≡ s.need + jobs_by t late x * c
+      → Stretch (up_to y (j + 1)) a i last x r
+  unfolding by
+  stretch_more {x} {j} {s = s} {r = r} h l w e c t late at need =
+      let f : r.at ≡ min s.at (jobs_by (y.t j) (y.j j) x * y.t j - y.j j) = rw (← t, ← late) at in
+      let g : r.need ≡ s.need + jobs_by (y.t j) (y.j j) x * y.c j = rw (← c, ← t, ← late) need in
       let more = load_more y (λ j. ltb (a.p j) (a.p i)) (by (up_to y (j + 1)) x) j in
-      let late = ranged.jitters j l in
-      let part = part_bound 1 (x + y.j j) (y.t j) (y.c j) (omega (arith, (ranged.periods j l).1)) (ranged.costs j l).1 in
+      let part = part_bound 1 (x + y.j j) (y.t j) (y.c j) (omega (arith, (ranged.periods j l).1, ranged.jitters j l)) (ranged.costs j l).1 in
       let step = step_after (y.t j) (x + y.j j) (ranged.periods j l).0 in
-      by_test (λ r. Stretch (up_to y (j + 1)) a i last x r) (ltb (a.p j) (a.p i))
-      (λ e.
       record {
-        after = omega (arith, w.after, step);
-        within = omega (arith, w.within);
-        ends = below_more (λ k. a.p k < a.p i → min s.at (by y x j * y.t j - y.j j) + y.j k ≤ by y x k * y.t k) j
-            (λ k b m. omega (arith, w.ends k b m)) (λ m. omega (arith, step));
-        need = rw (more, e) (omega (arith, w.need));
-        small = omega (arith, w.small, part);
-      })
-      (λ e.
+        after = rw f (omega (arith, w.after, step));
+        within = rw f (omega (arith, w.within));
+        ends = rw f (below_more (λ k. a.p k < a.p i → min s.at (by y x j * y.t j - y.j j) + y.j k ≤ by y x k * y.t k) j
+            (λ k b m. omega (arith, w.ends k b m)) (λ m. omega (arith, step)));
+        need = rw (g, more, e) (omega (arith, w.need));
+        small = rw g (omega (arith, w.small, part));
+      }
+
+  -- and else it changes nothing
+  pub stretch_same : {x j : ℕ} {s : Slack} → Stretch (up_to y j) a i last x s → ltb (a.p j) (a.p i) ≡ false → Stretch (up_to y (j + 1)) a i last x s
+  unfolding by
+  stretch_same {x} {j} {s} w e =
+      let more = load_more y (λ j. ltb (a.p j) (a.p i)) (by (up_to y (j + 1)) x) j in
       record {
         after = w.after;
         within = w.within;
@@ -106,7 +97,7 @@ module _ {y : Tasks} {a : Assignment} (ranged : Ranged y) {i : ℕ} (inside : i 
             (λ m. absurd (omega (arith, ltb-false (a.p j) (a.p i) e)));
         need = rw (more, e) (omega (arith, w.need));
         small = omega (arith, w.small);
-      })
+      }
 
   module _ {x : ℕ} {s : Slack} (w : Stretch y a i last x s) where
     -- in a stretch the jobs asked for are those asked for by its start
@@ -122,17 +113,12 @@ module _ {y : Tasks} {a : Assignment} (ranged : Ranged y) {i : ℕ} (inside : i 
     stretch_rises : (u : ℕ) → x < u → u ≤ s.at → slack y a i u ≤ℤ slack y a i s.at
     stretch_rises u h k = slack_rises y a i u s.at k (λ j l m. counts u j h k l m ∙ sym (counts s.at j w.after (omega arith) l m))
 
-    pub stretch_small : (s.at ≤ most_ticks) × (s.need ≤ most_need)
-    stretch_small = (omega (arith, w.within), omega (arith, w.small, ranged.few))
-
   pub walk_start : {s : Slack} → Stretch y a i last 0 s → Walked y a i last s.at s
   walk_start {s} w =
       record {
         low = omega (arith, w.after);
         high = w.within;
         value = sym (largest_first (slack y a i) s.at (omega (arith, w.after)) (stretch_rises w) ∙ stretch_value w);
-        at = (stretch_small w).0;
-        need = (stretch_small w).1;
       }
 
   pub walk_more : {here : ℕ} {best s : Slack} → Walked y a i last here best → Stretch y a i last here s → Walked y a i last s.at (larger_of best s)
@@ -144,12 +130,10 @@ module _ {y : Tasks} {a : Assignment} (ranged : Ranged y) {i : ℕ} (inside : i 
             larger_value best s
             ∙ ap₂ larger v.value (sym (stretch_value w))
             ∙ sym (largest_step (slack y a i) here s.at v.low w.after (stretch_rises w));
-        at = larger_either (λ r. r.at ≤ most_ticks) best s v.at (stretch_small w).0;
-        need = larger_either (λ r. r.need ≤ most_need) best s v.need (stretch_small w).1;
       }
 
-  pub walk_done : {here : ℕ} {best : Slack} → last ≡ last_instant (y.d i) (y.j i) → Walked y a i last here best → last ≤ here → Tolerated y a i best
+  pub walk_done : {here : ℕ} {best : Slack} → last ≡ last_instant (y.d i) (y.j i) → Walked y a i last here best → last ≤ here → value_of best ≡ tolerance y a i
   unfolding tolerance
   walk_done {here} e v h =
       let q : here - 1 ≡ y.d i - y.j i - 1 = omega (arith, v.high) in
-      record { value = rw (← q) v.value; at = v.at; need = v.need }
+      rw (← q) v.value

@@ -1,4 +1,5 @@
 -- What a table's file in the edition e says, and that it reads where the writer takes the table.
+use Rattle.std.specs.Prelude.{Ok}
 use mathlib.Core.Path.{◌≡◌, ap, ◌∙◌}
 use mathlib.Core.Bool.{true}
 use mathlib.Core.List.{List}
@@ -11,12 +12,11 @@ use lib.Seq.{ext_get_or}
 use Rattle.paper.specs.Numbers.{rec, zero_record, per_task}
 use Rattle.paper.specs.File.{in_edition, head_values, head_fields, record_fields, record_from, record_in, spare_from, shortest, spare_clear, edition_in, tasks_in, words_in, region_words, own_words, records_in, table_in}
 use Rattle.paper.specs.Answers.{read_outcome}
-use Rattle.paper.specs.declared.Outcome.TheVariants.{Done}
 use Rattle.paper.specs.declared.Table.{Table}
 use Rattle.paper.proofs.Tests.{every_all}
 use Rattle.laws.proofs.Lists.{list_same}
 use Rattle.trips.proofs.One.{IsFile}
-use Rattle.paper.proofs.Reading.{read_done}
+use Rattle.paper.proofs.Loading.{read_done}
 use Rattle.paper.proofs.Writing.{Taken}
 use Rattle.paper.proofs.Sizes.{length_bounds}
 use Rattle.paper.proofs.Editions.{in_either}
@@ -67,7 +67,7 @@ module _ (e : ℕ) (t : Table) (cabinet line : ℕ) (own f : List ℕ) (i : IsFi
     pub table_back : table_in f ≡ record { n = t.n; records = per_task t.n (rec t.records) zero_record }
     table_back = λ j. record { n = tasks_back j; records = records_back j }
 
-  pub reads : (catalogue : List ℕ) (room room' : ℕ) → Taken e t cabinet line own catalogue room → length own ≤ room' → read_outcome f cabinet line catalogue room' ≡ Done
+  pub reads : (catalogue : List ℕ) (room room' : ℕ) → Taken e t cabinet line own catalogue room → length own ≤ room' → read_outcome f cabinet line catalogue room' ≡ Ok tt
   reads catalogue room room' w l =
       let least = (length_bounds e t.n (length own) w.some_tasks w.few_tasks w.few_words).0 in
       let long-enough : shortest ≤ in_edition e 22 25 = in_either (λ (x : ℕ). shortest ≤ x) e (omega arith) (omega arith) in

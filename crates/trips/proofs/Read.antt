@@ -18,7 +18,7 @@ use Rattle.laws.proofs.Lists.{list_length, list_at, per_task_at}
 use Rattle.bits.specs.Fields.{Bytes}
 use Rattle.bits.proofs.Field.{field_lt}
 use Rattle.trips.proofs.One.{IsFile}
-use Rattle.paper.proofs.Reading.{Loaded}
+use Rattle.paper.proofs.Loading.{Loaded}
 
 pub words_count : (f : List ℕ) (e n m : ℕ) → length (region_words f e n m) ≡ m
 unfolding region_words

@@ -1,5 +1,6 @@
 -- The sample file two-jobs-assigned, from the definitions: what the writer makes of the two jobs as edition 1, byte for byte, and that it takes them.
 -- The same of the two jobs with jitters 3 and 9 as edition 2: what it makes of them, that this reads and as what, and that edition 1 has no place for them.
+use Rattle.std.specs.Prelude.{Err, Ok}
 use mathlib.Core.Path.{◌≡◌, refl}
 use mathlib.Core.List.{List, [], ◌∷◌}
 use Prim.Native.Nat.{ℕ}
@@ -10,7 +11,6 @@ use Rattle.paper.specs.Seal.{seal_bit, seal_bits, seal_byte, seal_from}
 use Rattle.paper.specs.File.{spare_clear, sealed, edition_in, region_words, own_words, table_in, put_head, put_records, put_words, put_seal, file_of}
 use Rattle.paper.specs.Regions.{regions_hold, all_regions_hold}
 use Rattle.paper.specs.Answers.{read_outcome, write_outcome}
-use Rattle.paper.specs.declared.Outcome.TheVariants.{Done, Refused}
 use Rattle.paper.specs.declared.Refusal.TheVariants.{JitterInEditionOne}
 use Rattle.paper.specs.declared.Source.TheVariants.{Own}
 use Rattle.paper.specs.declared.Table.{Table}
@@ -28,7 +28,7 @@ jobs j k = record {
 abbrev words : List ℕ
 words = 2 ∷ 3 ∷ 1 ∷ []
 
-pub sample_taken : write_outcome 1 (jobs 0 0) 70002 12 words [] 42 ≡ Done
+pub sample_taken : write_outcome 1 (jobs 0 0) 70002 12 words [] 42 ≡ Ok tt
 unfolding every sum_to each_once thresholds_hold regions_hold all_regions_hold
 sample_taken = refl
 
@@ -50,7 +50,7 @@ second =
     0x00 ∷ 0x00 ∷ 0x20 ∷ 0x00 ∷ 0x03 ∷ 0x00 ∷ 0x00 ∷ 0x10 ∷
     0xd4 ∷ 0x80 ∷ []
 
-pub late_taken : write_outcome 2 (jobs 3 9) 70002 12 words [] 48 ≡ Done
+pub late_taken : write_outcome 2 (jobs 3 9) 70002 12 words [] 48 ≡ Ok tt
 unfolding every sum_to each_once thresholds_hold regions_hold all_regions_hold
 late_taken = refl
 
@@ -58,7 +58,7 @@ pub late_file : file_of 2 (jobs 3 9) 70002 12 words ≡ second
 unfolding file_of put_seal put_words put_records put_head put_fields put_field put_bit with_bit seal_from seal_byte seal_bits seal_bit
 late_file = refl
 
-pub late_reads : read_outcome second 70002 12 [] 3 ≡ Done
+pub late_reads : read_outcome second 70002 12 [] 3 ≡ Ok tt
 unfolding every sum_to list_to per_task bit_at field spare_clear sealed seal_from seal_byte seal_bits seal_bit region_words each_once thresholds_hold regions_hold all_regions_hold
 late_reads = refl
 
@@ -67,6 +67,6 @@ unfolding list_to per_task bit_at field region_words
 late_says = (refl, refl, refl)
 
 -- 19
-pub late_refused : write_outcome 1 (jobs 3 9) 70002 12 words [] 48 ≡ Refused JitterInEditionOne
+pub late_refused : write_outcome 1 (jobs 3 9) 70002 12 words [] 48 ≡ Err JitterInEditionOne
 unfolding every sum_to each_once thresholds_hold regions_hold all_regions_hold
 late_refused = refl

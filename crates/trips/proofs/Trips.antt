@@ -1,5 +1,6 @@
 -- Both round trips of a cabinet file in either edition (e), on the definitions alone. Calls.antt has the same as answers of the calls.
 -- Each supposes that the writer or the reader is done, so both are about plates without a zero (`not_blank` in paper, Writing and Reading).
+use Rattle.std.specs.Prelude.{Ok}
 use mathlib.Core.Path.{◌≡◌, refl, sym, ap, ◌∙◌}
 use mathlib.Core.Logic.{by_cases}
 use mathlib.Core.List.{List}
@@ -11,7 +12,6 @@ use lib.Seq.{ext_get_or}
 use Rattle.paper.specs.Numbers.{most_tasks, rec, zero_record, per_task}
 use Rattle.paper.specs.File.{file_length, edition_in, tasks_in, words_in, own_words, table_in, file_of}
 use Rattle.paper.specs.Answers.{read_outcome, write_outcome}
-use Rattle.paper.specs.declared.Outcome.TheVariants.{Done}
 use Rattle.paper.specs.declared.Record.{Record}
 use Rattle.paper.specs.declared.Table.{Table}
 use Rattle.laws.proofs.Lists.{per_task_length, per_task_at, per_task_past}
@@ -19,7 +19,7 @@ use Rattle.bits.specs.Fields.{Bytes}
 use Rattle.bits.proofs.Field.{field_lt}
 use Rattle.trips.proofs.One.{one_file}
 use Rattle.trips.proofs.Made.{made}
-use Rattle.paper.proofs.Reading.{read_says}
+use Rattle.paper.proofs.Loading.{read_says}
 use Rattle.paper.proofs.Writing.{write_says, write_done}
 use Rattle.paper.proofs.Jitters.{jitter_kept}
 use Rattle.trips.proofs.Read.{read_file, words_count, read_unjittered}
@@ -56,13 +56,13 @@ past_none t h l z = ap (λ (rs : List Record). with_records t.n rs) same
 -- A table that the writer takes is read back from its file under the plate that it was written for and with the same catalogue:
 -- the edition that it was written as, the same number of tasks, the same records up to n, zero records past n, and the same region words.
 pub record ReadBack (e : ℕ) (t : Table) (cabinet line : ℕ) (own catalogue f : List ℕ) : Type 0 where
-  pub done : (room : ℕ) → length own ≤ room → read_outcome f cabinet line catalogue room ≡ Done
+  pub done : (room : ℕ) → length own ≤ room → read_outcome f cabinet line catalogue room ≡ Ok tt
   pub edition : edition_in f ≡ e
   pub table : table_in f ≡ zero_past t
   pub words : own_words f ≡ own
 
 pub written_read : (e : ℕ) (t : Table) (cabinet line : ℕ) (own catalogue : List ℕ) (room : ℕ) → line < 2 ^ 16
-    → write_outcome e t cabinet line own catalogue room ≡ Done → ReadBack e t cabinet line own catalogue (file_of e t cabinet line own)
+    → write_outcome e t cabinet line own catalogue room ≡ Ok tt → ReadBack e t cabinet line own catalogue (file_of e t cabinet line own)
 written_read e t cabinet line own catalogue room l d =
     let f = file_of e t cabinet line own in
     let w = write_says e t cabinet line own catalogue room d in
@@ -76,8 +76,8 @@ written_read e t cabinet line own catalogue room l d =
 
 -- A file that reads is taken by the writer as the file's own edition, with its own table, plate and region words and the same catalogue,
 pub read_taken : (f : List ℕ) (cabinet line : ℕ) (catalogue : List ℕ) (room room' : ℕ)
-    → read_outcome f cabinet line catalogue room ≡ Done → length f ≤ room'
-    → write_outcome (edition_in f) (table_in f) cabinet line (own_words f) catalogue room' ≡ Done
+    → read_outcome f cabinet line catalogue room ≡ Ok tt → length f ≤ room'
+    → write_outcome (edition_in f) (table_in f) cabinet line (own_words f) catalogue room' ≡ Ok tt
 read_taken f cabinet line catalogue room room' d h =
     let r = read_says f cabinet line catalogue room d in
     let c = words_count f (edition_in f) (tasks_in f) (words_in f) in
@@ -99,7 +99,7 @@ read_taken f cabinet line catalogue room room' d h =
 
 -- and what is written is the same bytes.
 pub read_written : (f : List ℕ) (cabinet line : ℕ) (catalogue : List ℕ) (room : ℕ) → Bytes f
-    → read_outcome f cabinet line catalogue room ≡ Done
+    → read_outcome f cabinet line catalogue room ≡ Ok tt
     → file_of (edition_in f) (table_in f) cabinet line (own_words f) ≡ f
 read_written f cabinet line catalogue room b d =
     let e = edition_in f in
@@ -114,7 +114,7 @@ read_written f cabinet line catalogue room b d =
 
 -- Two different files of one edition never read as the same table and region words under one plate.
 pub read_apart : (f g : List ℕ) (cabinet line : ℕ) (catalogue catalogue' : List ℕ) (room room' : ℕ) → Bytes f → Bytes g
-    → read_outcome f cabinet line catalogue room ≡ Done → read_outcome g cabinet line catalogue' room' ≡ Done
+    → read_outcome f cabinet line catalogue room ≡ Ok tt → read_outcome g cabinet line catalogue' room' ≡ Ok tt
     → edition_in f ≡ edition_in g → table_in f ≡ table_in g → own_words f ≡ own_words g → f ≡ g
 read_apart f g cabinet line catalogue catalogue' room room' a b c d e t w =
     sym (read_written f cabinet line catalogue room a c)
@@ -125,7 +125,7 @@ read_apart f g cabinet line catalogue catalogue' room room' a b c d e t w =
 
 -- Of one edition, since a table that is taken as edition 1 is taken as edition 2 too, given room;
 pub both_taken : (t : Table) (cabinet line : ℕ) (own catalogue : List ℕ) (room room' : ℕ) → file_length 2 t.n (length own) ≤ room'
-    → write_outcome 1 t cabinet line own catalogue room ≡ Done → write_outcome 2 t cabinet line own catalogue room' ≡ Done
+    → write_outcome 1 t cabinet line own catalogue room ≡ Ok tt → write_outcome 2 t cabinet line own catalogue room' ≡ Ok tt
 both_taken t cabinet line own catalogue room room' h d =
     let w = write_says 1 t cabinet line own catalogue room d in
     write_done 2 t cabinet line own catalogue room'
@@ -152,7 +152,7 @@ pub record TwoFiles (t : Table) (cabinet line : ℕ) (own catalogue f g : List �
   pub differ : f ≡ g → ⊥
 
 pub two_files : (t : Table) (cabinet line : ℕ) (own catalogue : List ℕ) (room : ℕ) → line < 2 ^ 16
-    → write_outcome 1 t cabinet line own catalogue room ≡ Done
+    → write_outcome 1 t cabinet line own catalogue room ≡ Ok tt
     → TwoFiles t cabinet line own catalogue (file_of 1 t cabinet line own) (file_of 2 t cabinet line own)
 two_files t cabinet line own catalogue room l d =
     let size = file_length 2 t.n (length own) in

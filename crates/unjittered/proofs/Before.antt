@@ -1,6 +1,7 @@
 -- The definitions as they stood before document 02, items 8 and 9, word for word: those that J and edition 2 have entered, and those that stand on them. What they are made of and these items left alone they take from `paper`.
 -- `Record` and `Tasks` have a field J today: `record_from` makes a record with J = 0, and `zero_record` (J = 0 too) and `tasks_of` are today's, as there is one type of a record. Nothing on this page reads J.
--- `ReadAnswer` has a field `edition` today: `table_for` makes it with 1, the one edition that there was, or with 0 on a refusal.
+-- A file that is read is handed back with its edition today: `reading_of` makes it with 1, the one edition that there was.
+use Rattle.std.proofs.Common.{Option, Some, None, Result, Ok, Err}
 use Prim.Native.Nat.{ℕ, zero, suc, ◌+◌, ◌-◌, ◌*◌, ◌/◌, max}
 use mathlib.Core.Path.{◌≡◌}
 use mathlib.Core.Bool.{Bool, true, false, not, ◌&&◌, ◌||◌}
@@ -10,31 +11,23 @@ use lib.IntN.{ℤ, pos, sub_ℕ, ◌+ℤ◌}
 use lib.ListN.{get_or, length, take, drop, replicate}
 use lib.Signed.{lt_z}
 use Rattle.paper.specs.Vocabulary.{list_to, every, lowest, ceil_div}
-use Rattle.paper.specs.Numbers.{most_tasks, most_name, most_cabinet, horizon, rec, zero_record, per_task, ticks_in_range, Assignment, assigned}
+use Rattle.paper.specs.Numbers.{most_name, most_cabinet, horizon, rec, zero_record, per_task, ticks_in_range, Assignment, assigned}
 use Rattle.paper.specs.Bits.{field, fields_at, put_field, put_fields}
 use Rattle.paper.specs.File.{head_widths, head_fields, edition_in, cabinet_in, line_in, tasks_in, words_in, source_bit, source_of, filler_width, shortest, sealed, put_seal}
 use Rattle.paper.specs.Regions.{Part, part_of, list_of}
 use Rattle.paper.specs.Analysis.{Tasks, tasks_of, Standing, standing, least, load, within}
 use Rattle.paper.specs.Lengths.{largest, least_of, regions_fit}
 use Rattle.paper.specs.Rows.{row_size, row_assignment, row_holds, Later}
-use Rattle.paper.specs.Refusals.{Asks, first_of, wrong_tasks, wrong_counts, blank, bad_assignment, bad_regions, no_room, no_such_record, is_unassigned, deadline_above_period, below_zero_at}
-use Rattle.paper.specs.Answers.{when_done, no_table, length_for, no_time, ticks_for, fit_for, part_for}
+use Rattle.paper.specs.Refusals.{Asks, Outcome, first_of, wrong_tasks, wrong_counts, blank, bad_assignment, bad_regions, no_room, no_such_record, is_unassigned, deadline_above_period, below_zero_at}
+use Rattle.paper.specs.Answers.{answered, when_done, no_time, part_for}
 use Rattle.paper.specs.declared.Record.{Record}
 use Rattle.paper.specs.declared.Table.{Table}
 use Rattle.paper.specs.declared.Refusal.{Refusal}
 use Rattle.paper.specs.declared.Refusal.TheVariants.{Short, WrongEdition, WrongCabinet, WrongLine, WrongLength, WrongSeal, SpareBitSet, OutOfRange, BadRow, BlankPlate}
-use Rattle.paper.specs.declared.Outcome.{Outcome}
-use Rattle.paper.specs.declared.Outcome.TheVariants.{Done, Refused}
-use Rattle.paper.specs.declared.ReadAnswer.{ReadAnswer}
-use Rattle.paper.specs.declared.WriteAnswer.{WriteAnswer}
+use Rattle.paper.specs.declared.Reading.{Reading}
 use Rattle.paper.specs.declared.Response.{Response}
-use Rattle.paper.specs.declared.Time.{Time}
-use Rattle.paper.specs.declared.Time.TheVariants.{At, Beyond}
-use Rattle.paper.specs.declared.TimesAnswer.{TimesAnswer}
-use Rattle.paper.specs.declared.TicksAnswer.{TicksAnswer}
-use Rattle.paper.specs.declared.FitAnswer.{FitAnswer}
-use Rattle.paper.specs.declared.RowAnswer.{RowAnswer}
-use Rattle.paper.specs.declared.RowAnswer.TheVariants as Row
+use Rattle.paper.specs.declared.Step.{Step}
+use Rattle.paper.specs.declared.Step.TheVariants.{Row, End}
 
 -- Of paper/specs/Numbers.antt
 
@@ -150,7 +143,7 @@ unfoldable pub level_sum : Tasks → Standing → ℕ → ℕ
 level_sum y s x = s.b + load y s.level (before y x)
 
 -- from 1 to H
-unfoldable pub level_of : Tasks → Standing → Time
+unfoldable pub level_of : Tasks → Standing → Option ℕ
 level_of y s = least (λ x. eqb x (level_sum y s x)) 1 horizon
 
 -- Start S: the smallest S ≥ 0 with S = b + k·C(i) + sum over p(j) < p(i) of (1 + floor(S/T(j)))·C(j), blocked or not
@@ -158,7 +151,7 @@ unfoldable pub start_sum : Tasks → Standing → ℕ → ℕ → ℕ → ℕ
 start_sum y s i k x = s.b + k * y.c i + load y s.above (by y x)
 
 -- from 0 to H
-unfoldable pub start_of : Tasks → Standing → ℕ → ℕ → Time
+unfoldable pub start_of : Tasks → Standing → ℕ → ℕ → Option ℕ
 start_of y s i k = least (λ x. eqb x (start_sum y s i k x)) 0 (horizon + 1)
 
 -- Finish F: the smallest F > S with F = S + C(i) + sum over p(j) < h(i) of (ceil(F/T(j)) − started(j))·C(j), where started(j) is 1 + floor(S/T(j)), blocked or not;
@@ -167,50 +160,50 @@ unfoldable pub finish_sum : Tasks → Standing → ℕ → ℕ → ℕ → ℕ
 finish_sum y s i start x = start + y.c i + load y s.cuts (λ j. before y x j - by y start j)
 
 -- from S + 1 to H
-unfoldable pub finish_of : Tasks → Standing → ℕ → ℕ → Time
+unfoldable pub finish_of : Tasks → Standing → ℕ → ℕ → Option ℕ
 finish_of y s i start = least (λ x. eqb x (finish_sum y s i start x)) (start + 1) (horizon - start)
 
-unfoldable pub finish_from : Tasks → Standing → ℕ → Time → Time
-finish_from y s i (At start) = finish_of y s i start
-finish_from y s i Beyond = Beyond
+unfoldable pub finish_from : Tasks → Standing → ℕ → Option ℕ → Option ℕ
+finish_from y s i (Some start) = finish_of y s i start
+finish_from y s i None = None
 
 -- F of job k
-unfoldable pub job : Tasks → Standing → ℕ → ℕ → Time
+unfoldable pub job : Tasks → Standing → ℕ → ℕ → Option ℕ
 job y s i k = finish_from y s i (start_of y s i k)
 
 -- R(i) is the largest F − k·T(i) over jobs k from 0 to ceil(L/T(i)) − 1; if L, any S or any F has no solution at or below H, "beyond".
 -- A difference below zero counts as 0 here. L ≥ 1, so job 0 is among them, and its F − 0 is above zero (proofs/Responses.antt has R by the signed differences).
-unfoldable pub later : Time → Time → ℕ → Time
-later (At r) (At f) released = At (max r (f - released))
-later (At r) Beyond released = Beyond
-later Beyond f released = Beyond
+unfoldable pub later : Option ℕ → Option ℕ → ℕ → Option ℕ
+later (Some r) (Some f) released = Some (max r (f - released))
+later (Some r) None released = None
+later None f released = None
 
-unfoldable pub worst : Tasks → Standing → ℕ → ℕ → Time
-worst y s i zero = At 0
+unfoldable pub worst : Tasks → Standing → ℕ → ℕ → Option ℕ
+worst y s i zero = Some 0
 worst y s i (suc k) = later (worst y s i k) (job y s i k) (k * y.t i)
 
-unfoldable pub worst_from : Tasks → Standing → ℕ → Time → Time
-worst_from y s i (At l) = worst y s i (before y l i)
-worst_from y s i Beyond = Beyond
+unfoldable pub worst_from : Tasks → Standing → ℕ → Option ℕ → Option ℕ
+worst_from y s i (Some l) = worst y s i (before y l i)
+worst_from y s i None = None
 
-unfoldable pub response : Tasks → Standing → ℕ → Time
+unfoldable pub response : Tasks → Standing → ℕ → Option ℕ
 response y s i = worst_from y s i (level_of y s)
 
 -- Beside R stands the number k of the job that reached it; where several reach the same value, the first. Jobs count from 0, `lowest` from 1, so 1 is taken off.
 -- R is above zero, so that a difference below zero, counted as 0, never reaches it.
-unfoldable pub reaches : Time → ℕ → ℕ → Bool
-reaches (At f) released r = eqb (f - released) r
-reaches Beyond released r = false
+unfoldable pub reaches : Option ℕ → ℕ → ℕ → Bool
+reaches (Some f) released r = eqb (f - released) r
+reaches None released r = false
 
 -- Where R is "beyond" k is 0 and means nothing.
-unfoldable pub first_reaching : Tasks → Standing → ℕ → ℕ → Time → ℕ
-first_reaching y s i count (At r) = lowest count (λ k. reaches (job y s i k) (k * y.t i) r) - 1
-first_reaching y s i count Beyond = 0
+unfoldable pub first_reaching : Tasks → Standing → ℕ → ℕ → Option ℕ → ℕ
+first_reaching y s i count (Some r) = lowest count (λ k. reaches (job y s i k) (k * y.t i) r) - 1
+first_reaching y s i count None = 0
 
 -- over jobs k from 0 to ceil(L/T(i)) − 1
-unfoldable pub worst_job : Tasks → Standing → ℕ → Time → Time → ℕ
-worst_job y s i (At l) r = first_reaching y s i (before y l i) r
-worst_job y s i Beyond r = 0
+unfoldable pub worst_job : Tasks → Standing → ℕ → Option ℕ → Option ℕ → ℕ
+worst_job y s i (Some l) r = first_reaching y s i (before y l i) r
+worst_job y s i None r = 0
 
 unfoldable pub with_job : Tasks → Standing → ℕ → Response
 with_job y s i = record { time = response y s i; job = worst_job y s i (level_of y s) (response y s i) }
@@ -342,14 +335,14 @@ next_asks t given room = first_asks t room ++ ((BadRow, not (row_holds t.n given
 abbrev pub read_outcome : List ℕ → ℕ → ℕ → List ℕ → ℕ → Outcome
 read_outcome f cabinet line catalogue room = first_of (read_asks f cabinet line catalogue room)
 
-abbrev pub table_for : Outcome → List ℕ → ReadAnswer
-table_for o f = record { outcome = o; edition = when_done o 1 0; table = when_done o (table_in f) no_table; words = when_done o (words_in f) 0 }
+abbrev pub reading_of : List ℕ → Reading
+reading_of f = record { edition = 1; table = table_in f; words = words_in f }
 
 abbrev pub words_for : Outcome → List ℕ → List ℕ → List ℕ
 words_for o f out = when_done o (region_words f (tasks_in f) (words_in f) ++ drop (words_in f) out) out
 
-abbrev pub read_answer : List ℕ → ℕ → ℕ → List ℕ → List ℕ → ReadAnswer
-read_answer f cabinet line catalogue out = table_for (read_outcome f cabinet line catalogue (length out)) f
+abbrev pub read_answer : List ℕ → ℕ → ℕ → List ℕ → List ℕ → Result Reading Refusal
+read_answer f cabinet line catalogue out = answered (read_outcome f cabinet line catalogue (length out)) (reading_of f)
 
 abbrev pub read_out : List ℕ → ℕ → ℕ → List ℕ → List ℕ → List ℕ
 read_out f cabinet line catalogue out = words_for (read_outcome f cabinet line catalogue (length out)) f out
@@ -362,9 +355,9 @@ abbrev pub file_for : Outcome → Table → ℕ → ℕ → List ℕ → List �
 file_for o t cabinet line own out =
     when_done o (file_of t cabinet line own ++ drop (file_length t.n (length own)) out) out
 
-abbrev pub write_answer : Table → ℕ → ℕ → List ℕ → List ℕ → List ℕ → WriteAnswer
+abbrev pub write_answer : Table → ℕ → ℕ → List ℕ → List ℕ → List ℕ → Result ℕ Refusal
 write_answer t cabinet line own catalogue out =
-    length_for (write_outcome t cabinet line own catalogue (length out)) (file_length t.n (length own))
+    answered (write_outcome t cabinet line own catalogue (length out)) (file_length t.n (length own))
 
 abbrev pub write_out : Table → ℕ → ℕ → List ℕ → List ℕ → List ℕ → List ℕ
 write_out t cabinet line own catalogue out =
@@ -374,41 +367,38 @@ abbrev pub time_of : Table → ℕ → Response
 time_of t i =
     with_job (tasks_of t.records t.n) (standing (tasks_of t.records t.n) (assigned t.records) i) i
 
-abbrev pub times_for : Outcome → Table → TimesAnswer
-times_for o t = record { outcome = o; times = when_done o (per_task t.n (time_of t) no_time) (replicate most_tasks no_time) }
+abbrev pub times_answer : Table → Result (List Response) Refusal
+times_answer t = answered (first_of (times_asks t)) (per_task t.n (time_of t) no_time)
 
-abbrev pub times_answer : Table → TimesAnswer
-times_answer t = times_for (first_of (times_asks t)) t
-
-abbrev pub tolerances_answer : Table → TicksAnswer
+abbrev pub tolerances_answer : Table → Result (List ℤ) Refusal
 tolerances_answer t =
-    ticks_for (first_of (tolerances_asks t)) t.n (tolerance (tasks_of t.records t.n) (assigned t.records))
+    answered (first_of (tolerances_asks t)) (per_task t.n (tolerance (tasks_of t.records t.n) (assigned t.records)) (pos 0))
 
-abbrev pub lengths_answer : Table → TicksAnswer
+abbrev pub lengths_answer : Table → Result (List ℤ) Refusal
 lengths_answer t =
-    ticks_for (first_of (lengths_asks t)) t.n (length_of (tasks_of t.records t.n) (assigned t.records))
+    answered (first_of (lengths_asks t)) (per_task t.n (length_of (tasks_of t.records t.n) (assigned t.records)) (pos 0))
 
-abbrev pub fit_answer : Table → List ℕ → List ℕ → FitAnswer
+abbrev pub fit_answer : Table → List ℕ → List ℕ → Result Bool Refusal
 fit_answer t own catalogue =
-    fit_for (first_of (fit_asks t own catalogue))
+    answered (first_of (fit_asks t own catalogue))
     (all_fit t.records (tasks_of t.records t.n) (assigned t.records) own catalogue)
 
 -- The listing: out and out' are what the buffer holds before and after. A row found is its first 2n numbers; the end and a refusal write nothing.
-unfoldable pub Lists : Tasks → List ℕ → List ℕ → List ℕ → RowAnswer → Type 0
-Lists y given out out' Row.Row = Next y given (take (row_size y.n) out') × (drop (row_size y.n) out' ≡ drop (row_size y.n) out)
-Lists y given out out' Row.End = Ended y given × (out' ≡ out)
-Lists y given out out' (Row.Refused r) = ⊥
+unfoldable pub Lists : Tasks → List ℕ → List ℕ → List ℕ → Result Step Refusal → Type 0
+Lists y given out out' (Ok Row) = Next y given (take (row_size y.n) out') × (drop (row_size y.n) out' ≡ drop (row_size y.n) out)
+Lists y given out out' (Ok End) = Ended y given × (out' ≡ out)
+Lists y given out out' (Err r) = ⊥
 
-unfoldable pub Says : Outcome → Tasks → List ℕ → List ℕ → List ℕ → RowAnswer → Type 0
-Says Done y given out out' answer = Lists y given out out' answer
-Says (Refused r) y given out out' answer = (answer ≡ Row.Refused r) × (out' ≡ out)
+unfoldable pub Says : Outcome → Tasks → List ℕ → List ℕ → List ℕ → Result Step Refusal → Type 0
+Says (Ok done) y given out out' answer = Lists y given out out' answer
+Says (Err r) y given out out' answer = (answer ≡ Err r) × (out' ≡ out)
 
 -- the first of all: from a row that has not begun
-unfoldable pub FirstSays : Table → List ℕ → List ℕ → RowAnswer → Type 0
+unfoldable pub FirstSays : Table → List ℕ → List ℕ → Result Step Refusal → Type 0
 FirstSays t out out' answer = Says (first_of (first_asks t (length out))) (tasks_of t.records t.n) [] out out' answer
 
 -- the first strictly after a given row
-unfoldable pub NextSays : Table → List ℕ → List ℕ → List ℕ → RowAnswer → Type 0
+unfoldable pub NextSays : Table → List ℕ → List ℕ → List ℕ → Result Step Refusal → Type 0
 NextSays t given out out' answer = Says (first_of (next_asks t given (length out))) (tasks_of t.records t.n) given out out' answer
 
 abbrev pub record_outcome : List ℕ → ℕ → ℕ → List ℕ → ℕ → Outcome

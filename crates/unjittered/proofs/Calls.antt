@@ -1,5 +1,6 @@
 -- With every J at 0 all earlier answers stand (document 02, item 8), and what was signed off for edition 1 stands (item 9): a theorem for each call that J or edition 2 has entered. Each answers what it answered by the definitions as they stood before (`Before`), refusals and lent memory included.
 -- A record's regions and a name are not here: of what they ask and answer items 8 and 9 left every word alone.
+use Rattle.std.proofs.Common.{Result, Ok, Err}
 use Prim.Native.Nat.{ℕ, ◌≤◌, ◌<◌}
 use mathlib.Core.Path.{◌≡◌, refl, ap, ap₂, sym, ◌∙◌}
 use mathlib.Core.Bool.{Bool, true, false, not, ◌&&◌, cond}
@@ -7,23 +8,21 @@ use mathlib.Core.List.{List, [], ◌∷◌, ◌++◌}
 use mathlib.Core.Logic.{◌↔◌}
 use borrow.Author.Tests.{lt-ltb, eqb-true, ne_eqb, not-false}
 use lib.Dec.{leb, ltb, eqb}
-use lib.ListN.{length, drop, replicate}
+use lib.ListN.{length, drop}
 use lib.IntN.{pos}
-use Rattle.paper.specs.Numbers.{most_tasks, most_name, most_cabinet, rec, zero_record, ticks_in_range, record_in_range, records_in_range, any_jitter, Assignment, assigned}
+use Rattle.paper.specs.Numbers.{most_name, most_cabinet, rec, zero_record, ticks_in_range, record_in_range, records_in_range, any_jitter, Assignment, assigned}
 use Rattle.paper.specs.File.{edition_in, tasks_in, words_in}
 use Rattle.paper.specs.Regions.{part_of}
 use Rattle.paper.specs.Analysis.{Tasks, tasks_of, standing}
 use Rattle.paper.specs.Rows.{row_assignment, Passing, Ended}
-use Rattle.paper.specs.Refusals.{Asks, first_of, blank, tolerance_over_none, wrong_tasks, wrong_counts, bad_assignment, bad_regions, no_room, no_such_record, is_unassigned, deadline_above_period, below_zero_at, file_asks, times_asks, tolerances_asks, lengths_asks, fit_asks}
-use Rattle.paper.specs.Answers.{when_done, no_time, fit_for, part_for, table_for, length_for, read_outcome, read_answer, read_out, write_outcome, write_answer, write_out, times_answer, tolerances_answer, lengths_answer, fit_answer, Lists, Says, FirstSays, NextSays, record_outcome, record_place, record_bytes}
+use Rattle.paper.specs.Refusals.{Asks, Outcome, first_of, blank, tolerance_over_none, wrong_tasks, wrong_counts, bad_assignment, bad_regions, no_room, no_such_record, is_unassigned, deadline_above_period, below_zero_at, file_asks, times_asks, tolerances_asks, lengths_asks, fit_asks}
+use Rattle.paper.specs.Answers.{answered, when_done, no_time, part_for, reading_of, read_outcome, read_answer, read_out, write_outcome, write_answer, write_out, times_answer, tolerances_answer, lengths_answer, fit_answer, Lists, Says, FirstSays, NextSays, record_outcome, record_place, record_bytes}
 use Rattle.paper.specs.declared.Record.{Record}
 use Rattle.paper.specs.declared.Table.{Table}
 use Rattle.paper.specs.declared.Refusal.{Refusal}
 use Rattle.paper.specs.declared.Refusal.TheVariants.{OutOfRange, BlankPlate, JitterInEditionOne}
-use Rattle.paper.specs.declared.Outcome.{Outcome}
-use Rattle.paper.specs.declared.Outcome.TheVariants.{Done, Refused}
-use Rattle.paper.specs.declared.RowAnswer.{RowAnswer}
-use Rattle.paper.specs.declared.RowAnswer.TheVariants as Row
+use Rattle.paper.specs.declared.Step.{Step}
+use Rattle.paper.specs.declared.Step.TheVariants.{Row, End}
 use Rattle.paper.proofs.Tests.{every_says, within}
 use Rattle.paper.proofs.Asks.{done_none}
 use Rattle.paper.proofs.Jitters.{all_still}
@@ -56,7 +55,7 @@ ranges_stand rs n still = every_same n _ _ (λ k l. range_stands (rec rs k) (sti
 
 -- what is asked behind the ranges is asked of records in range alone
 behind : (w b : Bool) (r s : Refusal) (x z : Outcome) → (b ≡ true → x ≡ z)
-    → cond w (Refused r) (cond (not b) (Refused s) x) ≡ cond w (Refused r) (cond (not b) (Refused s) z)
+    → cond w (Err r) (cond (not b) (Err s) x) ≡ cond w (Err r) (cond (not b) (Err s) z)
 behind true b r s x z h = refl
 behind false true r s x z h = h refl
 behind false false r s x z h = refl
@@ -90,21 +89,21 @@ module _ (f : List ℕ) (other : edition_in f ≡ 2 → ⊥) (cabinet line : ℕ
   )
 
   -- a file that is read is of edition 1
-  table_stands : (o : Outcome) → (o ≡ Done → e ≡ 1) → table_for o f ≡ Was.table_for o f
-  table_stands Done one = ap₂ (λ v rs. record { outcome = Done; edition = v; table = record { n = n; records = rs }; words = m }) (one refl) (records_in_stand e not_2 f n)
-  table_stands (Refused r) one = refl
+  reading_stands : (o : Outcome) → (o ≡ Ok tt → e ≡ 1) → answered o (reading_of f) ≡ answered o (Was.reading_of f)
+  reading_stands (Ok done) one = ap₂ (λ v rs. Ok (record { edition = v; table = record { n = n; records = rs }; words = m })) (one refl) (records_in_stand e not_2 f n)
+  reading_stands (Err r) one = refl
 
   pub read_stands : (out : List ℕ) → (read_answer f cabinet line catalogue out ≡ Was.read_answer f cabinet line catalogue out)
       × (read_out f cabinet line catalogue out ≡ Was.read_out f cabinet line catalogue out)
   read_stands out = (
-    ap (λ o. table_for o f) same ∙ table_stands (Was.read_outcome f cabinet line catalogue (length out)) one,
+    ap (λ o. answered o (reading_of f)) same ∙ reading_stands (Was.read_outcome f cabinet line catalogue (length out)) one,
     ap₂ (λ o ws. when_done o (ws ++ drop m out) out) same (region_words_stand e not_2 f n m),
   )
     where
       same : read_outcome f cabinet line catalogue (length out) ≡ Was.read_outcome f cabinet line catalogue (length out)
       same = ap (λ asks. first_of (asks ++ (no_room (length out) m ∷ []))) asks_stand
 
-      one : Was.read_outcome f cabinet line catalogue (length out) ≡ Done → e ≡ 1
+      one : Was.read_outcome f cabinet line catalogue (length out) ≡ Ok tt → e ≡ 1
       one done = eqb-true e 1 (not-false _ (done_none (Was.read_asks f cabinet line catalogue (length out)) done).1.0)
 
   pub record_stands : (number : ℕ) → (record_outcome f cabinet line catalogue number ≡ Was.record_outcome f cabinet line catalogue number)
@@ -130,7 +129,7 @@ jitter_asks t cabinet line own catalogue room =
     no_room room (Was.file_length t.n (length own)) ∷ []
 
 pub told_one_stands : (t : Table) (cabinet line : ℕ) (own catalogue out : List ℕ) → let o = first_of (jitter_asks t cabinet line own catalogue (length out)) in
-    (write_answer 1 t cabinet line own catalogue out ≡ length_for o (Was.file_length t.n (length own)))
+    (write_answer 1 t cabinet line own catalogue out ≡ answered o (Was.file_length t.n (length own)))
     × (write_out 1 t cabinet line own catalogue out ≡ Was.file_for o t cabinet line own out)
 told_one_stands t cabinet line own catalogue out =
     let o = first_of (jitter_asks t cabinet line own catalogue (length out)) in
@@ -152,11 +151,11 @@ module _ (t : Table) (still : (k : ℕ) → k < t.n → (rec t.records k).jitter
 
   -- the first two asks of a call on a table, and what it asks behind them
   ranged : (first : Refusal × Bool) (x z : Outcome) → (((k : ℕ) → k < t.n → 1 ≤ y.d k) → x ≡ z)
-      → cond first.1 (Refused first.0) (cond (not (records_in_range t.records t.n)) (Refused OutOfRange) x)
-      ≡ cond first.1 (Refused first.0) (cond (not (Was.records_in_range t.records t.n)) (Refused OutOfRange) z)
+      → cond first.1 (Err first.0) (cond (not (records_in_range t.records t.n)) (Err OutOfRange) x)
+      ≡ cond first.1 (Err first.0) (cond (not (Was.records_in_range t.records t.n)) (Err OutOfRange) z)
   ranged first x z h =
       behind first.1 (records_in_range t.records t.n) first.0 OutOfRange x z (λ e. h (due e))
-      ∙ ap (λ b. cond first.1 (Refused first.0) (cond (not b) (Refused OutOfRange) z)) range
+      ∙ ap (λ b. cond first.1 (Err first.0) (cond (not b) (Err OutOfRange) z)) range
 
   none : any_jitter t.records t.n ≡ false
   none = all_still t.records t.n still
@@ -165,7 +164,7 @@ module _ (t : Table) (still : (k : ℕ) → k < t.n → (rec t.records k).jitter
   pub write_stands : (cabinet line : ℕ) (own catalogue out : List ℕ) → (write_answer 1 t cabinet line own catalogue out ≡ Was.write_answer t cabinet line own catalogue out)
       × (write_out 1 t cabinet line own catalogue out ≡ Was.write_out t cabinet line own catalogue out)
   write_stands cabinet line own catalogue out = (
-    ap (λ o. length_for o (Was.file_length t.n (length own))) same,
+    ap (λ o. answered o (Was.file_length t.n (length own))) same,
     ap₂ (λ o file. when_done o (file ++ drop (Was.file_length t.n (length own)) out) out) same (file_stands t cabinet line own),
   )
     where
@@ -174,13 +173,13 @@ module _ (t : Table) (still : (k : ℕ) → k < t.n → (rec t.records k).jitter
 
   -- response times, with their jobs
   pub times_stand : times_answer t ≡ Was.times_answer t
-  times_stand = ap₂ (λ o ts. record { outcome = o; times = when_done o ts (replicate most_tasks no_time) }) outcome (per_task_same t.n _ _ no_time (λ i l. with_job_stands y still (standing y a i) i l))
+  times_stand = ap₂ answered outcome (per_task_same t.n _ _ no_time (λ i l. with_job_stands y still (standing y a i) i l))
     where
       outcome : first_of (times_asks t) ≡ first_of (Was.times_asks t)
       outcome = rw range
 
   pub tolerances_stand : tolerances_answer t ≡ Was.tolerances_answer t
-  tolerances_stand = ap₂ (λ o ts. record { outcome = o; ticks = when_done o ts (replicate most_tasks (pos 0)) }) outcome (per_task_same t.n _ _ (pos 0) (tolerance_stands y still a))
+  tolerances_stand = ap₂ answered outcome (per_task_same t.n _ _ (pos 0) (tolerance_stands y still a))
     where
       outcome : first_of (tolerances_asks t) ≡ first_of (Was.tolerances_asks t)
       outcome = ranged (wrong_tasks t) (tail (tolerance_over_none t ∷ [])) (tail []) (λ d. rw (none_stands y still a d))
@@ -189,7 +188,7 @@ module _ (t : Table) (still : (k : ℕ) → k < t.n → (rec t.records k).jitter
           tail asks = first_of (bad_assignment t.records t.n ∷ is_unassigned t ∷ deadline_above_period t ∷ asks)
 
   pub lengths_stand : lengths_answer t ≡ Was.lengths_answer t
-  lengths_stand = ap₂ (λ o ts. record { outcome = o; ticks = when_done o ts (replicate most_tasks (pos 0)) }) outcome (per_task_same t.n _ _ (pos 0) (λ k _. length_stands y still a k))
+  lengths_stand = ap₂ answered outcome (per_task_same t.n _ _ (pos 0) (λ k _. length_stands y still a k))
     where
       outcome : first_of (lengths_asks t) ≡ first_of (Was.lengths_asks t)
       outcome = ranged (wrong_tasks t) _ _ (λ d. ap tail (lowest_stands y still a d))
@@ -198,7 +197,7 @@ module _ (t : Table) (still : (k : ℕ) → k < t.n → (rec t.records k).jitter
           tail low = first_of (bad_assignment t.records t.n ∷ is_unassigned t ∷ deadline_above_period t ∷ below_zero_at low ∷ [])
 
   pub region_check_stands : (own catalogue : List ℕ) → fit_answer t own catalogue ≡ Was.fit_answer t own catalogue
-  region_check_stands own catalogue = ap₂ fit_for outcome (fit_stands y still a t.records own catalogue)
+  region_check_stands own catalogue = ap₂ answered outcome (fit_stands y still a t.records own catalogue)
     where
       outcome : first_of (fit_asks t own catalogue) ≡ first_of (Was.fit_asks t own catalogue)
       outcome = ranged (wrong_counts t.n (length own)) _ _ (λ d. ap tail (lowest_stands y still a d))
@@ -213,24 +212,24 @@ module _ (t : Table) (still : (k : ℕ) → k < t.n → (rec t.records k).jitter
   is_passing : (row : List ℕ) → Was.Passing y row → Passing y row
   is_passing row p = record { form = p.form; pass = passes_stand y still (row_assignment t.n row) ∙ p.pass }
 
-  lists_stand : (given out out' : List ℕ) (answer : RowAnswer) → Lists y given out out' answer ↔ Was.Lists y given out out' answer
+  lists_stand : (given out out' : List ℕ) (answer : Result Step Refusal) → Lists y given out out' answer ↔ Was.Lists y given out out' answer
   unfolding Lists Ended Was.Lists Was.Ended
-  lists_stand given out out' Row.Row = (
+  lists_stand given out out' (Ok Row) = (
     λ v. (record { passing = was_passing _ v.0.passing; after = v.0.after; first = λ r p. v.0.first r (is_passing r p) }, v.1),
     λ v. (record { passing = is_passing _ v.0.passing; after = v.0.after; first = λ r p. v.0.first r (was_passing r p) }, v.1),
   )
-  lists_stand given out out' Row.End = (λ v. (λ r p. v.0 r (is_passing r p), v.1), λ v. (λ r p. v.0 r (was_passing r p), v.1))
-  lists_stand given out out' (Row.Refused r) = (λ v. v, λ v. v)
+  lists_stand given out out' (Ok End) = (λ v. (λ r p. v.0 r (is_passing r p), v.1), λ v. (λ r p. v.0 r (was_passing r p), v.1))
+  lists_stand given out out' (Err r) = (λ v. v, λ v. v)
 
-  says_stand : (o : Outcome) (given out out' : List ℕ) (answer : RowAnswer) → Says o y given out out' answer ↔ Was.Says o y given out out' answer
+  says_stand : (o : Outcome) (given out out' : List ℕ) (answer : Result Step Refusal) → Says o y given out out' answer ↔ Was.Says o y given out out' answer
   unfolding Says Was.Says
-  says_stand Done given out out' answer = lists_stand given out out' answer
-  says_stand (Refused r) given out out' answer = (λ v. v, λ v. v)
+  says_stand (Ok done) given out out' answer = lists_stand given out out' answer
+  says_stand (Err r) given out out' answer = (λ v. v, λ v. v)
 
-  pub first_stands : (out out' : List ℕ) (answer : RowAnswer) → FirstSays t out out' answer ↔ Was.FirstSays t out out' answer
+  pub first_stands : (out out' : List ℕ) (answer : Result Step Refusal) → FirstSays t out out' answer ↔ Was.FirstSays t out out' answer
   unfolding FirstSays Was.FirstSays
   first_stands out out' answer = rw (← range) (says_stand _ [] out out' answer)
 
-  pub next_stands : (given out out' : List ℕ) (answer : RowAnswer) → NextSays t given out out' answer ↔ Was.NextSays t given out out' answer
+  pub next_stands : (given out out' : List ℕ) (answer : Result Step Refusal) → NextSays t given out out' answer ↔ Was.NextSays t given out out' answer
   unfolding NextSays Was.NextSays
   next_stands given out out' answer = rw (← range) (says_stand _ given out out' answer)

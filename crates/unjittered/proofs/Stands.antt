@@ -1,4 +1,5 @@
 -- The analysis with every J at 0: response times and their jobs, the pass test, tolerances, lengths and what 16 asks are those of the definitions as they stood (`Before`). What the calls answer by them: `Calls`.
+use Rattle.std.proofs.Common.{Option, Some, None}
 use Prim.Native.Nat.{ℕ, zero, suc, ◌+◌, ◌-◌, ◌*◌, ◌/◌, ◌≤◌, ◌<◌, max}
 use mathlib.Core.Path.{◌≡◌, refl, ap, ap₂, ◌∙◌, fun_ext}
 use mathlib.Core.Bool.{Bool, false, ◌||◌, cond}
@@ -14,8 +15,6 @@ use Rattle.paper.specs.Regions.{list_of}
 use Rattle.paper.specs.Analysis.{Tasks, Standing, standing, before, by, level_sum, level_of, start_sum, start_of, finish_sum, finish_of, finish_from, job, later, worst, worst_from, response, reaches, first_reaching, worst_job, with_job, within, task_passes, passes}
 use Rattle.paper.specs.Lengths.{largest, slack, tolerance, no_instant, lowest_no_instant, lowest_below_zero, least_of, smaller, allowed, length_of, regions_fit, all_fit}
 use Rattle.paper.specs.declared.Record.{Record}
-use Rattle.paper.specs.declared.Time.{Time}
-use Rattle.paper.specs.declared.Time.TheVariants.{At, Beyond}
 use Rattle.paper.proofs.Extremes.{lowest_none}
 use Rattle.laws.proofs.Every.{every_same, lowest_same}
 use Rattle.laws.proofs.Least.{least_same}
@@ -57,52 +56,52 @@ module _ (y : Tasks) (still : (k : ℕ) → k < y.n → y.j k ≡ 0) where
           least_same _ _ (start + 1) (horizon - start) (λ x _.
           ap (λ w. eqb x (start + y.c i + w)) (load_same y _ _ _ (λ j l. ap₂ ◌-◌ (before_stands x j l) (by_stands start j l))))
 
-      finishes_stand : (start : Time) → finish_from y s i start ≡ Was.finish_from y s i start
+      finishes_stand : (start : Option ℕ) → finish_from y s i start ≡ Was.finish_from y s i start
       unfolding finish_from Was.finish_from
-      finishes_stand (At start) = finish_stands start
-      finishes_stand Beyond = refl
+      finishes_stand (Some start) = finish_stands start
+      finishes_stand None = refl
 
       pub job_stands : (k : ℕ) → job y s i k ≡ Was.job y s i k
       unfolding job Was.job
       job_stands k = finishes_stand (start_of y s i k) ∙ ap (Was.finish_from y s i) (start_stands k)
 
       module _ (among : i < y.n) where
-        later_stands : (r f : Time) (released : ℕ) → later r f (y.j i) released ≡ Was.later r f released
+        later_stands : (r f : Option ℕ) (released : ℕ) → later r f (y.j i) released ≡ Was.later r f released
         unfolding later Was.later
-        later_stands (At r) (At f) released = ap (λ v. At (max r (v - released))) (plus f i among)
-        later_stands (At r) Beyond released = refl
-        later_stands Beyond f released = refl
+        later_stands (Some r) (Some f) released = ap (λ v. Some (max r (v - released))) (plus f i among)
+        later_stands (Some r) None released = refl
+        later_stands None f released = refl
 
         worst_stands : (k : ℕ) → worst y s i k ≡ Was.worst y s i k
         unfolding worst Was.worst
         worst_stands zero = refl
         worst_stands (suc k) = later_stands _ _ _ ∙ ap₂ (λ r f. Was.later r f (k * y.t i)) (worst_stands k) (job_stands k)
 
-        worsts_stand : (l : Time) → worst_from y s i l ≡ Was.worst_from y s i l
+        worsts_stand : (l : Option ℕ) → worst_from y s i l ≡ Was.worst_from y s i l
         unfolding worst_from Was.worst_from
-        worsts_stand (At l) = worst_stands (before y l i) ∙ ap (Was.worst y s i) (before_stands l i among)
-        worsts_stand Beyond = refl
+        worsts_stand (Some l) = worst_stands (before y l i) ∙ ap (Was.worst y s i) (before_stands l i among)
+        worsts_stand None = refl
 
         pub response_stands : response y s i ≡ Was.response y s i
         unfolding response Was.response
         response_stands = worsts_stand (level_of y s) ∙ ap (Was.worst_from y s i) level_stands
 
-        reaches_stands : (f : Time) (released r : ℕ) → reaches f (y.j i) released r ≡ Was.reaches f released r
+        reaches_stands : (f : Option ℕ) (released r : ℕ) → reaches f (y.j i) released r ≡ Was.reaches f released r
         unfolding reaches Was.reaches
-        reaches_stands (At f) released r = ap (λ v. eqb (v - released) r) (plus f i among)
-        reaches_stands Beyond released r = refl
+        reaches_stands (Some f) released r = ap (λ v. eqb (v - released) r) (plus f i among)
+        reaches_stands None released r = refl
 
-        first_reaching_stands : (count : ℕ) (r : Time) → first_reaching y s i count r ≡ Was.first_reaching y s i count r
+        first_reaching_stands : (count : ℕ) (r : Option ℕ) → first_reaching y s i count r ≡ Was.first_reaching y s i count r
         unfolding first_reaching Was.first_reaching
-        first_reaching_stands count (At r) =
+        first_reaching_stands count (Some r) =
             ap (λ (v : ℕ). v - 1)
             (lowest_same count _ _ (λ k _. reaches_stands (job y s i k) (k * y.t i) r ∙ ap (λ f. Was.reaches f (k * y.t i) r) (job_stands k)))
-        first_reaching_stands count Beyond = refl
+        first_reaching_stands count None = refl
 
-        worst_job_stands : (l r : Time) → worst_job y s i l r ≡ Was.worst_job y s i l r
+        worst_job_stands : (l r : Option ℕ) → worst_job y s i l r ≡ Was.worst_job y s i l r
         unfolding worst_job Was.worst_job
-        worst_job_stands (At l) r = first_reaching_stands (before y l i) r ∙ ap (λ count. Was.first_reaching y s i count r) (before_stands l i among)
-        worst_job_stands Beyond r = refl
+        worst_job_stands (Some l) r = first_reaching_stands (before y l i) r ∙ ap (λ count. Was.first_reaching y s i count r) (before_stands l i among)
+        worst_job_stands None r = refl
 
         pub with_job_stands : with_job y s i ≡ Was.with_job y s i
         unfolding with_job Was.with_job

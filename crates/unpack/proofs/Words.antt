@@ -1,5 +1,5 @@
 -- The region words of a file, and the array that they come in.
-use mathlib.Core.Path.{◌≡◌, refl, sym}
+use mathlib.Core.Path.{◌≡◌, refl}
 use mathlib.Core.List.{List}
 use Prim.Native.Nat.{ℕ, ◌+◌, ◌-◌, ◌<◌}
 use lib.ListN.{length, set, take, replicate}
@@ -29,6 +29,3 @@ array_turn f e n k h q g = fill_turn most_words k _ 0 h q g
 pub array_front : (f : List ℕ) (e n m : ℕ) {ws : List ℕ} → ws ≡ words_array f e n m → take m ws ≡ region_words f e n m
 unfolding words_array
 array_front f e n m q = rw q (take_at (region_words f e n m) (replicate (most_words - m) 0) m (words_length f e n m))
-
-pub front_length : (f : List ℕ) (e n m : ℕ) {ws : List ℕ} → ws ≡ words_array f e n m → m ≡ length (take m ws)
-front_length f e n m q = rw (array_front f e n m q) (sym (words_length f e n m))

@@ -1,4 +1,3 @@
-pub mod Says
 pub mod Verdicts
 pub mod Notes
 pub mod Points

@@ -1,42 +1,35 @@
 -- What a sheet says under its table, out of the calls' answers alone: the notes, and the verdict.
-use Rattle.std.specs.Prelude.{ℕ, cond, eqb}
-use Rattle.paper.specs.Answers.{when_done}
+use Rattle.std.specs.Prelude.{ℕ, Bool, true, false, List, ℤ, Option, Some, None, Result, Ok, Err}
 use Rattle.paper.specs.declared.Refusal.{Refusal}
-use Rattle.paper.specs.declared.Outcome.{Outcome}
-use Rattle.paper.specs.declared.Outcome.TheVariants.{Done, Refused}
-use Rattle.paper.specs.declared.FitAnswer.{FitAnswer}
-use Rattle.paper.specs.declared.FitAnswer.TheVariants as Answer
+use Rattle.paper.specs.declared.Response.{Response}
 use Rattle.show_facts.specs.declared.Facts.{Facts}
-use Rattle.first_jobs.specs.Firsts.{first_late, first_unfit, first_not_shown}
+use Rattle.first_jobs.specs.Firsts.{numbered, first_late, first_unfit, first_not_shown}
 use Rattle.verdicts.specs.declared.Note.{Note}
-use Rattle.verdicts.specs.declared.Deadlines.{Deadlines}
-use Rattle.verdicts.specs.declared.Deadlines.TheVariants.{Kept, Missed}
-use Rattle.verdicts.specs.declared.Fit.{Fit}
-use Rattle.verdicts.specs.declared.Fit.TheVariants.{Fitting, TooLong, NotChecked}
 use Rattle.verdicts.specs.declared.Verdict.{Verdict}
-use Rattle.verdicts.specs.declared.Verdict.TheVariants.{Unchecked, Checked}
 
 -- the first of the three calls that turned the table away, with its refusal
-abbrev pub note_from : Outcome → (Refusal → Note) → Note → Note
-note_from Done note next = next
-note_from (Refused r) note next = note r
+module _ {A : Type 0} where
+  abbrev pub note_from : Result A Refusal → (Refusal → Note) → Option Note → Option Note
+  note_from (Ok a) note next = next
+  note_from (Err r) note next = Some (note r)
 
-abbrev pub first_note : Outcome → Outcome → Outcome → Note
+abbrev pub first_note : Result (List Response) Refusal → Result (List ℤ) Refusal → Result (List ℤ) Refusal → Option Note
 first_note times tolerances lengths =
-    note_from times Note.Times (note_from tolerances Note.Tolerances (note_from lengths Note.Lengths Note.Nothing))
+    note_from times Note.Times (note_from tolerances Note.Tolerances (note_from lengths Note.Lengths None))
 
 -- the number of the first job that the test of fixed preemption points doesn't show, or 0, as where it is turned away
 abbrev pub not_shown : Facts → ℕ
-not_shown f = when_done f.points.outcome (first_not_shown f) 0
+not_shown f = first_not_shown f
 
--- the two halves of the verdict: the first by the number of the first job that is late, or 0, the second by the region check's answer
-abbrev pub deadlines_of : ℕ → Deadlines
-deadlines_of late = cond (eqb late 0) Kept (Missed late)
+-- the verdict's second half: by the region check's answer, and the number of the first job with a region above its length, or 0
+abbrev pub unfit_of : Result Bool Refusal → ℕ → Result (Option ℕ) Refusal
+unfit_of (Ok true) unfit = Ok None
+unfit_of (Ok false) unfit = Ok (numbered unfit)
+unfit_of (Err r) unfit = Err r
 
-abbrev pub fit_of : FitAnswer → ℕ → Fit
-fit_of Answer.Fits unfit = Fitting
-fit_of Answer.Unfit unfit = TooLong unfit
-fit_of (Answer.Refused r) unfit = NotChecked
+abbrev pub verdict_by : Result (List Response) Refusal → Facts → Result Verdict Refusal
+verdict_by (Ok times) f = Ok (record { late = numbered (first_late f); unfit = unfit_of f.check (first_unfit f) })
+verdict_by (Err r) f = Err r
 
-abbrev pub verdict_of : Facts → Verdict
-verdict_of f = when_done f.times.outcome (Checked (deadlines_of (first_late f)) (fit_of f.check (first_unfit f))) Unchecked
+abbrev pub verdict_of : Facts → Result Verdict Refusal
+verdict_of f = verdict_by f.times f

@@ -1,95 +1,91 @@
 // Writing a cabinet file.
 #![tactic(auto)]
 
-ghost use Rattle.std.specs.Prelude.{◌≡◌, ◌<◌, ◌≤◌, length};
-ghost use Rattle.paper.specs.Numbers.{most_tasks, most_words};
-ghost use Rattle.paper.specs.File.{file_length, file_of};
+ghost use Rattle.std.specs.Prelude.{◌≡◌, length, IfOk, IfErr, Ok, Err};
+ghost use Rattle.paper.specs.File.{file_of};
 ghost use Rattle.paper.specs.Answers.{write_outcome, write_answer, write_out};
+ghost use Rattle.layout.specs.Editions.{edition_number};
+ghost use Rattle.layout.specs.Shapes.{length_of};
+ghost use Rattle.writer.specs.Fitting.{IsFitting};
 
-use paper::{Cabinet, Line, Outcome, Refusal, Table, WriteAnswer};
+use layout::{Edition, SEAL_BYTES, Shape};
+use paper::{MOST_CABINET, Plate, Refusal, Table};
 
 // Makes s, which has the file's length, the file.
-fn put_file(s: &mut [u8], edition: u8, t: Table, cabinet: Cabinet, line: Line, own: &[u32])
-    requires { (t.n ≤ most_tasks) × (length own.now ≤ most_words) × (length s.old ≡ file_length edition t.n (length own.now)) }
-    ensures { s.new ≡ file_of edition t cabinet.0 line.0 own.now }
+#[tactic(auto, unfolding(paper::specs::File::file_of))]
+fn put_file(s: &mut [u8], shape: Shape, t: &Table, plate: Plate, own: &[u32])
+    requires shape { (shape.tasks ≡ t.now.n) × (shape.words ≡ length own.now) }
+    requires size { length s.old ≡ length_of shape }
+    ensures { s.new ≡ file_of (edition_number shape.edition) t.now plate.cabinet.0 plate.line.0 own.now }
 {
-    let n = t.n;
-    let rs = t.records;
-    let m = own.len();
-    let end = s.len() - layout::SEAL_BYTES;
-    pack::put_head(s, edition, cabinet, line, n, m);
-    pack::put_records(s, edition, rs, n);
-    pack::put_words(s, edition, n, own);
+    let end = s.len() - SEAL_BYTES;
+    pack::put_head(s, shape, plate);
+    pack::put_records(s, shape.edition, t);
+    pack::put_words(s, shape, own);
     seal::put_seal(s, end);
 }
 
-// What writing asks, in the paper's order. 5 comes before the checks that look at n records and m words.
-fn outcome_of(
+// What writing asks, in the paper's order, and the shape of the file to be written. 5 comes before the checks that look at n records
+// and m words.
+fn shape_for(
     edition: u8,
-    t: Table,
-    cabinet: Cabinet,
-    line: Line,
+    t: &Table,
+    plate: Plate,
     own: &[u32],
     catalogue: &[u32],
     room: usize,
-) -> Outcome
-    ensures { result ≡ write_outcome edition t cabinet.0 line.0 own.now catalogue.now room }
+) -> Result<Shape, Refusal>
+    ensures done { IfOk result (λ s. write_outcome edition t.now plate.cabinet.0 plate.line.0 own.now catalogue.now room ≡ Ok tt) }
+    ensures shape { IfOk result (IsFitting edition t.now own.now room) }
+    ensures refused { IfErr result (λ r. write_outcome edition t.now plate.cabinet.0 plate.line.0 own.now catalogue.now room ≡ Err r) }
 {
-    if !layout::is_edition(edition) {
-        return Outcome::Refused(Refusal::WrongEdition);
+    let edition = Edition::try_from(edition)?;
+    if !checks::counts_in_range(t.n, own.len()) {
+        return Err(Refusal::WrongCounts);
     }
-    let n = t.n;
-    let rs = t.records;
-    let m = own.len();
-    if !checks::counts_in_range(n, m) {
-        return Outcome::Refused(Refusal::WrongCounts);
-    }
-    let blank = checks::is_blank(cabinet.0 as u64, line.0 as u64);
+    let blank = checks::plate_is_blank(plate);
     if blank {
-        return Outcome::Refused(Refusal::BlankPlate);
+        return Err(Refusal::BlankPlate);
     }
-    let in_range = (cabinet.0 <= paper::MOST_CABINET) & checks::records_in_range(rs, n);
+    let in_range = plate.cabinet.0 <= MOST_CABINET && checks::records_in_range(t);
     if !in_range {
-        return Outcome::Refused(Refusal::OutOfRange);
+        return Err(Refusal::OutOfRange);
     }
-    if !checks::assignment_holds(rs, n) {
-        return Outcome::Refused(Refusal::BadAssignment);
+    if !checks::assignment_holds(t) {
+        return Err(Refusal::BadAssignment);
     }
-    if !regions::all_regions_hold(rs, n, own, catalogue) {
-        return Outcome::Refused(Refusal::BadRegions);
+    if !regions::all_regions_hold(t, own, catalogue) {
+        return Err(Refusal::BadRegions);
     }
-    let lost = (edition == layout::EDITION_ONE) & !checks::unjittered(rs, n);
+    let lost = edition == Edition::One && !checks::unjittered(t);
     if lost {
-        return Outcome::Refused(Refusal::JitterInEditionOne);
+        return Err(Refusal::JitterInEditionOne);
     }
-    if room < layout::file_length(edition, n, m) {
-        return Outcome::Refused(Refusal::NoRoom);
+    let shape = Shape {
+        edition,
+        tasks: t.n,
+        words: own.len(),
+    };
+    if room < shape.file_length() {
+        return Err(Refusal::NoRoom);
     }
-    Outcome::Done
+    Ok(shape)
 }
 
 // Writes the file of that edition to the front of `out`: exactly its bytes, or nothing on a refusal.
 pub fn write(
     edition: u8,
     t: Table,
-    cabinet: Cabinet,
-    line: Line,
+    plate: Plate,
     own: &[u32],
     catalogue: &[u32],
     out: &mut [u8],
-) -> WriteAnswer
-    ensures value { result ≡ write_answer edition t cabinet.0 line.0 own.now catalogue.now out.old }
-    ensures out_after { out.new ≡ write_out edition t cabinet.0 line.0 own.now catalogue.now out.old }
+) -> Result<usize, Refusal>
+    ensures value { result ≡ write_answer edition t plate.cabinet.0 plate.line.0 own.now catalogue.now out.old }
+    ensures out_after { out.new ≡ write_out edition t plate.cabinet.0 plate.line.0 own.now catalogue.now out.old }
 {
-    let room = out.len();
-    let outcome = outcome_of(edition, t, cabinet, line, own, catalogue, room);
-    match outcome {
-        Outcome::Refused(r) => WriteAnswer::Refused(r),
-        Outcome::Done => {
-            let n = t.n;
-            let size = layout::file_length(edition, n, own.len());
-            put_file(&mut out[..size], edition, t, cabinet, line, own);
-            WriteAnswer::File(size)
-        }
-    }
+    let shape = shape_for(edition, &t, plate, own, catalogue, out.len())?;
+    let size = shape.file_length();
+    put_file(&mut out[..size], shape, &t, plate, own);
+    Ok(size)
 }

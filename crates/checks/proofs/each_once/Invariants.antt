@@ -1,5 +1,5 @@
 -- The invariant: inside says whether the first k numbers lie from 1 to n, apart whether no two of them are the same.
-use Rattle.std.proofs.Common.{◌≡◌, ◌≤◌, ◌-◌}
+use Rattle.std.proofs.Common.{◌≡◌}
 use mathlib.Core.Bool.{not, ◌&&◌}
 use lib.Dec.{leb, eqb}
 use lib.ListN.{get_or}
@@ -8,9 +8,5 @@ use Rattle.checks.proofs.each_once.Given as goal
 
 abbrev pub invariant-loop-k : goal.invariant-loop-k
 invariant-loop-k l =
-    (l.k ≤ l.fn.n)
-    × (l.inside ≡ every l.k (λ j. leb 1 (get_or l.fn.xs j 0) && leb (get_or l.fn.xs j 0) l.fn.n))
-    × (l.apart ≡ every l.k (λ j. every j (λ i. not (eqb (get_or l.fn.xs i 0) (get_or l.fn.xs j 0)))))
-
-abbrev pub decreases-loop-k : goal.decreases-loop-k
-decreases-loop-k l = l.fn.n - l.k
+    (l.inside ≡ every l.k (λ j. leb 1 (get_or l.xs j 0) && leb (get_or l.xs j 0) l.n))
+    × (l.apart ≡ every l.k (λ j. every j (λ i. not (eqb (get_or l.xs i 0) (get_or l.xs j 0)))))

@@ -1,5 +1,5 @@
 -- The invariant: ok says whether x is none of the first j numbers.
-use Rattle.std.proofs.Common.{◌≡◌, ◌≤◌, ◌-◌}
+use Rattle.std.proofs.Common.{◌≡◌}
 use mathlib.Core.Bool.{not}
 use lib.Dec.{eqb}
 use lib.ListN.{get_or}
@@ -7,7 +7,4 @@ use Rattle.paper.specs.Vocabulary.{every}
 use Rattle.checks.proofs.none_of.Given as goal
 
 abbrev pub invariant-loop-j : goal.invariant-loop-j
-invariant-loop-j l = (l.j ≤ l.fn.k) × (l.ok ≡ every l.j (λ i. not (eqb (get_or l.fn.xs i 0) l.fn.x)))
-
-abbrev pub decreases-loop-j : goal.decreases-loop-j
-decreases-loop-j l = l.fn.k - l.j
+invariant-loop-j l = l.ok ≡ every l.j (λ i. not (eqb (get_or l.xs i 0) l.x))

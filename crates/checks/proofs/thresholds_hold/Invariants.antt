@@ -1,5 +1,5 @@
 -- The invariant: ok says whether the first k thresholds hold.
-use Rattle.std.proofs.Common.{◌≡◌, ◌≤◌, ◌-◌}
+use Rattle.std.proofs.Common.{◌≡◌}
 use mathlib.Core.Bool.{◌&&◌}
 use lib.Dec.{leb}
 use lib.ListN.{get_or}
@@ -7,7 +7,4 @@ use Rattle.paper.specs.Vocabulary.{every}
 use Rattle.checks.proofs.thresholds_hold.Given as goal
 
 abbrev pub invariant-loop-k : goal.invariant-loop-k
-invariant-loop-k l = (l.k ≤ l.fn.n) × (l.ok ≡ every l.k (λ j. leb 1 (get_or l.fn.hs j 0) && leb (get_or l.fn.hs j 0) (get_or l.fn.ps j 0)))
-
-abbrev pub decreases-loop-k : goal.decreases-loop-k
-decreases-loop-k l = l.fn.n - l.k
+invariant-loop-k l = l.ok ≡ every l.k (λ j. leb 1 (get_or l.hs j 0) && leb (get_or l.hs j 0) (get_or l.ps j 0))

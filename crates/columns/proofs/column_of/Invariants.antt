@@ -1,11 +1,8 @@
 -- The first k numbers of the column are there, the others are 0 still.
-use Rattle.std.proofs.Common.{◌≡◌, ◌≤◌, ◌-◌}
-use Rattle.paper.specs.Numbers.{most_tasks, rec, per_task}
+use Rattle.std.proofs.Common.{◌≡◌}
+use Rattle.paper.specs.Numbers.{rec, per_task}
 use Rattle.columns.specs.Columns.{value_in}
 use Rattle.columns.proofs.column_of.Given as goal
 
 abbrev pub invariant-loop-k : goal.invariant-loop-k
-invariant-loop-k l = (l.k ≤ most_tasks) × (l.xs ≡ per_task l.k (λ j. value_in l.fn.which (rec l.fn.rs j)) 0)
-
-abbrev pub decreases-loop-k : goal.decreases-loop-k
-decreases-loop-k l = most_tasks - l.k
+invariant-loop-k l = l.xs ≡ per_task l.k (λ j. value_in l.fn.which (rec l.fn.rs j)) 0

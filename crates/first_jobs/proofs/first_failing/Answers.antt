@@ -1,17 +1,6 @@
-use mathlib.Core.Bool.{not}
-use mathlib.Core.Path.{ap}
-use native.Mathlib.Omega.{arith}
-use Rattle.first_jobs.proofs.Firsts.{none_yet, first_found, one_more, none_found}
+use Rattle.first_jobs.proofs.Firsts.{first_found}
 use Rattle.first_jobs.proofs.first_failing.Goals as goal
 
-pub loop-k-init : goal.loop-k-init
-loop-k-init c = (omega arith, none_yet)
-
-pub returns-then-not-holds_at : goal.returns-then-not-holds_at
-returns-then-not-holds_at c = first_found c.loop-k.invariant.1 (omega arith) c.holds_at.ensures (ap not c.if-not-holds_at.true)
-
-pub loop-k-preserved : goal.loop-k-preserved
-loop-k-preserved c = (omega arith, one_more c.loop-k.invariant.1 c.holds_at.ensures (ap not c.if-not-holds_at.false))
-
-pub returns : goal.returns
-returns c = none_found c.loop-k.invariant.1 (omega arith)
+pub returns-then-not-test : goal.returns-then-not-test
+returns-then-not-test g c =
+    first_found g.p c.args.n c.loop-k.k c.loop-k-test.true (c.requires.1.1 _ _ c.test.ensures) c.if-not-test.true c.loop-k.invariant

@@ -1,11 +1,6 @@
--- The invariant: every job passed finds its regions.
-use Prim.Native.Nat.{◌-◌, ◌≤◌}
-use Rattle.first_jobs.specs.Firsts.{inside_at}
-use Rattle.first_jobs.proofs.Firsts.{Passed}
+use Rattle.paper.specs.Numbers.{rec}
+use Rattle.first_jobs.specs.Firsts.{inside}
 use Rattle.first_jobs.proofs.first_outside.Given as goal
 
-abbrev pub invariant-loop-k : goal.invariant-loop-k
-invariant-loop-k l = (l.k ≤ l.n) × Passed (inside_at l.rs l.size) l.k
-
-abbrev pub decreases-loop-k : goal.decreases-loop-k
-decreases-loop-k l = l.n - l.k
+abbrev pub ghost-first_failing : goal.ghost-first_failing
+ghost-first_failing a = λ k. inside (rec a.test.0.now.records k) a.test.1.now

@@ -1,5 +1,5 @@
 -- The invariant: ok says whether the regions of the first k records fit.
-use Rattle.std.proofs.Common.{◌≡◌, ◌≤◌, ◌-◌}
+use Rattle.std.proofs.Common.{◌≡◌}
 use lib.IntN.{pos}
 use lib.ListN.{get_or}
 use Rattle.paper.specs.Vocabulary.{every}
@@ -10,7 +10,4 @@ use Rattle.fits.proofs.all_fit.Given as goal
 
 abbrev pub invariant-loop-k : goal.invariant-loop-k
 invariant-loop-k l =
-    (l.k ≤ l.fn.n) × (l.ok ≡ every l.k (λ k. regions_fit (list_of (rec l.fn.rs k).source l.fn.own l.fn.catalogue) (rec l.fn.rs k) (get_or l.fn.lengths k (pos 0))))
-
-abbrev pub decreases-loop-k : goal.decreases-loop-k
-decreases-loop-k l = l.fn.n - l.k
+    l.ok ≡ every l.k (λ k. regions_fit (list_of (rec l.t.records k).source l.own l.catalogue) (rec l.t.records k) (get_or l.lengths k (pos 0)))

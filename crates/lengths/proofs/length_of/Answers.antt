@@ -16,20 +16,17 @@ use Rattle.lengths.proofs.Turns.{least_none, least_turn}
 use Rattle.lengths.proofs.length_of.Goals as goal
 
 pub loop-j-init : goal.loop-j-init
-loop-j-init c = (omega arith, rw c.cost-q.ensures (to_z_pos w64 (omega (arith, (c.requires.ranged.costs c.args.k c.requires.k_lt_n).1)) ∙ sym (least_none _ _ _)))
+loop-j-init c = rw c.cost-q.ensures (to_z_pos w64 (omega (arith, (c.args.y.now.ranged.costs c.args.k c.requires.k_lt_n).1)) ∙ sym (least_none _ _ _))
 
 pub loop-j-preserved : goal.loop-j-preserved
 loop-j-preserved c =
     let l = c.loop-j in
-    let h = c.loop-j-test.true in
-    let read : to_z w64 (of_z w64 (get_or c.args.ticks.now l.j (pos 0))) ≡ get_or c.args.ticks.now l.j (pos 0) = search rules in (
-      omega arith,
-      kept c.narrowed-q.result c.narrowed-q.type_inv
-          (c.narrowed-q.ensures ∙ least_turn _ _ _ l.j l.invariant.1 (allowed_at _ _ c.requires.ticks_value l.j h read)),
-    )
+    let read : to_z w64 (of_z w64 (get_or c.args.ticks.now l.j (pos 0))) ≡ get_or c.args.ticks.now l.j (pos 0) = search rules in
+    kept c.narrowed-q.result c.narrowed-q.type_inv
+    (c.narrowed-q.ensures ∙ least_turn _ _ _ l.j l.invariant (allowed_at _ _ c.requires.ticks_value l.j c.loop-j-test.true read))
 
 pub returns : goal.returns
 unfolding length_of
 returns c =
     let l = c.loop-j in
-    at_end (λ j (b : (ℕ → Bool) × (ℕ → ℤ) × ℤ). least_of j b.0 b.1 b.2) l.j _ l.invariant.1 (omega arith)
+    at_end (λ j (b : (ℕ → Bool) × (ℕ → ℤ) × ℤ). least_of j b.0 b.1 b.2) l.j _ l.invariant (omega arith)

@@ -4,4 +4,4 @@ use Rattle.pack.proofs.put_head.Goals as goal
 
 pub returns : goal.returns
 unfolding put_head
-returns c = rw (c.put_all.ensures, c.clear.ensures, c.requires.2)
+returns c = rw (c.put_all.ensures, c.fill.ensures.after (λ y e. e), c.requires) (cc)

@@ -1,12 +1,8 @@
--- `pack::put_pairs` meets its contract. The loop's invariant: 2i words are put.
-use Prim.Native.Nat.{◌*◌, ◌-◌, ◌≤◌}
-use mathlib.Core.Path.{◌≡◌}
-use lib.ListN.{length}
+-- The first i pairs are put.
+use Rattle.std.proofs.Common.{◌≡◌, ◌*◌}
 use Rattle.paper.specs.File.{put_words}
+use Rattle.layout.specs.Editions.{edition_number}
 use Rattle.pack.proofs.put_pairs.Given as goal
 
 abbrev pub invariant-loop-i : goal.invariant-loop-i
-invariant-loop-i l = (l.i ≤ l.p) × (length l.s ≡ length l.initial.s) × (l.s ≡ put_words l.initial.s l.edition l.n l.ws (2 * l.i))
-
-abbrev pub decreases-loop-i : goal.decreases-loop-i
-decreases-loop-i l = l.p - l.i
+invariant-loop-i l = l.s ≡ put_words l.initial.s (edition_number l.fn.shape.edition) l.fn.shape.tasks l.ws (2 * l.i)

@@ -1,12 +1,8 @@
--- `pack::put_records` meets its contract. The loop's invariant: i records are put.
-use Prim.Native.Nat.{◌-◌, ◌≤◌}
-use mathlib.Core.Path.{◌≡◌}
-use lib.ListN.{length}
+-- The first k records are put.
+use Rattle.std.proofs.Common.{◌≡◌}
 use Rattle.paper.specs.File.{put_records}
+use Rattle.layout.specs.Editions.{edition_number}
 use Rattle.pack.proofs.put_records.Given as goal
 
-abbrev pub invariant-loop-i : goal.invariant-loop-i
-invariant-loop-i l = (l.i ≤ l.n) × (length l.s ≡ length l.initial.s) × (l.s ≡ put_records l.initial.s l.edition l.rs l.i)
-
-abbrev pub decreases-loop-i : goal.decreases-loop-i
-decreases-loop-i l = l.n - l.i
+abbrev pub invariant-loop-k : goal.invariant-loop-k
+invariant-loop-k l = l.s ≡ put_records l.initial.s (edition_number l.edition) l.t.records l.k

@@ -1,10 +1,7 @@
--- The invariant: what is left has the same trimmed length as the whole.
+-- The invariant: `stay` is the trimmed length of the bytes so far.
 use Rattle.std.proofs.Common.{◌≡◌, ◌≤◌}
 use Rattle.paper.specs.Regions.{trimmed}
 use Rattle.parts.proofs.kept.Given as goal
 
-abbrev pub invariant-loop-stay : goal.invariant-loop-stay
-invariant-loop-stay l = (l.stay ≤ l.width) × (trimmed l.s l.at l.stay ≡ trimmed l.s l.at l.width)
-
-abbrev pub decreases-loop-stay : goal.decreases-loop-stay
-decreases-loop-stay l = l.stay
+abbrev pub invariant-loop-k : goal.invariant-loop-k
+invariant-loop-k l = (l.stay ≤ l.k) × (l.stay ≡ trimmed l.s l.at l.k)

@@ -1,5 +1,5 @@
 -- The invariant: the largest so far is that of the tasks passed.
-use Rattle.std.proofs.Common.{◌≡◌, ◌≤◌, ◌-◌}
+use Rattle.std.proofs.Common.{◌≡◌}
 use mathlib.Core.Bool.{cond}
 use lib.Dec.{ltb}
 use lib.ListN.{get_or}
@@ -7,7 +7,4 @@ use Rattle.paper.specs.Vocabulary.{max_to}
 use Rattle.point_test.proofs.alpha.Given as goal
 
 abbrev pub invariant-loop-k : goal.invariant-loop-k
-invariant-loop-k l = (l.k ≤ l.fn.n) × (l.most ≡ max_to l.k (λ k. cond (ltb l.own (get_or l.fn.p k 0)) (get_or l.fn.regions k 0) 0))
-
-abbrev pub decreases-loop-k : goal.decreases-loop-k
-decreases-loop-k l = l.fn.n - l.k
+invariant-loop-k l = l.most ≡ max_to l.k (λ k. cond (ltb l.own (get_or l.p k 0)) (get_or l.regions k 0) 0)

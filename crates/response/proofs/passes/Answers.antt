@@ -1,5 +1,4 @@
-use mathlib.Core.Path.{sym, ◌∙◌}
-use native.Mathlib.Omega.{arith}
+use Rattle.std.proofs.Common.{sym, ◌∙◌, arith}
 use Rattle.paper.specs.Analysis.{passes}
 use Rattle.paper.proofs.Tests.{every_all, every_fails}
 use Rattle.response.proofs.passes.Goals as goal
@@ -7,9 +6,8 @@ use Rattle.response.proofs.passes.Goals as goal
 pub returns-then-not-task_passes : goal.returns-then-not-task_passes
 unfolding passes
 returns-then-not-task_passes c =
-    let a = c.args in
-    sym (every_fails a.n _ _ c.loop-i-test.true (sym c.task_passes.ensures ∙ c.if-not-task_passes.true))
+    sym (every_fails c.args.y.now.n _ _ c.loop-i-test.true (sym c.task_passes.ensures ∙ c.if-not-task_passes.true))
 
 pub returns : goal.returns
 unfolding passes
-returns c = sym (every_all _ _ (λ j l. c.loop-i.invariant.1 j (omega arith)))
+returns c = sym (every_all _ _ (λ j l. c.loop-i.invariant j (omega arith)))

@@ -1,15 +1,11 @@
-use mathlib.Core.Path.{ap, sym, ◌∙◌}
-use Rattle.paper.specs.declared.Response.{Response}
-use Rattle.columns.specs.Columns.{tasks_by, assigned_by}
-use Rattle.response.proofs.Bounds.{task-passes, task_fails}
+use Rattle.std.proofs.Common.{ap, ◌∙◌}
+use Rattle.std.specs.Option.{is_some}
+use Rattle.columns.specs.Columns.{assigned_by}
+use Rattle.columns.specs.Tasks.{tasks_in}
+use Rattle.response.proofs.Bounds.{task-passes}
 use Rattle.response.proofs.task_passes.Goals as goal
 
-pub returns-in-At : goal.returns-in-At
-returns-in-At c =
+pub returns : goal.returns
+returns c =
     let a = c.args in
-    task-passes (tasks_by a.n a.y.now) (assigned_by a.p.now a.h.now) a.i c.deadline-d.ensures _ (ap (λ (r : Response). r.time) (sym c.response-r.ensures) ∙ c.in-At.is)
-
-pub returns-in-Beyond : goal.returns-in-Beyond
-returns-in-Beyond c =
-    let a = c.args in
-    task_fails (tasks_by a.n a.y.now) (assigned_by a.p.now a.h.now) a.i c.deadline-d.ensures (ap (λ (r : Response). r.time) (sym c.response-r.ensures) ∙ c.in-Beyond.is)
+    c.is_some.ensures ∙ ap is_some c.response.ensures ∙ task-passes (tasks_in a.y.now) (assigned_by a.p.now a.h.now) a.i c.deadline.ensures

@@ -1,5 +1,4 @@
 -- The invariant: `ok` tells of the first i numbers.
-use Prim.Native.Nat.{◌-◌, ◌≤◌}
 use mathlib.Core.Path.{◌≡◌}
 use mathlib.Core.Bool.{not}
 use lib.Dec.{eqb}
@@ -8,7 +7,4 @@ use Rattle.paper.specs.Vocabulary.{every}
 use Rattle.rows.proofs.fresh.Given as goal
 
 abbrev pub invariant-loop-i : goal.invariant-loop-i
-invariant-loop-i l = (l.i ≤ l.k) × (l.ok ≡ every l.i (λ j. not (eqb (get_or l.d j 0) (get_or l.d l.k 0))))
-
-abbrev pub decreases-loop-i : goal.decreases-loop-i
-decreases-loop-i l = l.k - l.i
+invariant-loop-i l = l.ok ≡ every l.i (λ j. not (eqb (get_or l.d j 0) (get_or l.d l.k 0)))

@@ -1,5 +1,5 @@
 -- The invariant: the first k numbers of the column are there, the others are 0 still.
-use Prim.Native.Nat.{suc, ◌-◌, ◌≤◌}
+use Prim.Native.Nat.{suc}
 use mathlib.Core.Path.{◌≡◌}
 use lib.ListN.{take}
 use Rattle.paper.specs.Numbers.{per_task}
@@ -7,7 +7,4 @@ use Rattle.paper.specs.Rows.{place_of}
 use Rattle.rows.proofs.priorities_of.Given as goal
 
 abbrev pub invariant-loop-k : goal.invariant-loop-k
-invariant-loop-k l = (l.k ≤ l.n) × (l.xs ≡ per_task l.k (λ j. place_of (take l.n l.d) (suc j)) 0)
-
-abbrev pub decreases-loop-k : goal.decreases-loop-k
-decreases-loop-k l = l.n - l.k
+invariant-loop-k l = l.xs ≡ per_task l.k (λ j. place_of (take l.n l.d) (suc j)) 0

@@ -5,4 +5,4 @@ use Rattle.search.proofs.Tested.{unfit_barren}
 use Rattle.search.proofs.hopeless.Goals as goal
 
 pub returns : goal.returns
-returns c = λ e. unfit_barren _ _ _ c.requires.1.inside (sym c.fits.ensures ∙ not-true _ e)
+returns c = λ e. unfit_barren _ _ _ c.requires.inside (sym c.fits.ensures ∙ not-true _ e)

@@ -4,7 +4,7 @@ use Rattle.search.proofs.Moves.{state_start, bump, on, back, over, found, under,
 use Rattle.search.proofs.search.Goals as goal
 
 pub loop-digits-init : goal.loop-digits-init
-loop-digits-init c = state_start _ _ _ c.requires.1
+loop-digits-init c = state_start _ _ _ c.requires
 
 pub returns-then-pos-eq0 : goal.returns-then-pos-eq0
 unfolding Finds
@@ -13,11 +13,11 @@ returns-then-pos-eq0 c = over c.loop-digits.invariant (omega arith) (omega arith
 pub overflow_add-digits : goal.overflow_add-digits
 overflow_add-digits c = omega (arith, under c.loop-digits.invariant (omega arith))
 
-pub loop-digits-smaller-then-wide-n : goal.loop-digits-smaller-then-wide-n
-loop-digits-smaller-then-wide-n c = (back c.loop-digits.invariant (omega arith) (omega arith)).1
+pub loop-digits-smaller-then-from-y : goal.loop-digits-smaller-then-from-y
+loop-digits-smaller-then-from-y c = (back c.loop-digits.invariant (omega arith) (omega arith)).1
 
-pub loop-digits-preserved-then-wide-n : goal.loop-digits-preserved-then-wide-n
-loop-digits-preserved-then-wide-n c = (back c.loop-digits.invariant (omega arith) (omega arith)).0
+pub loop-digits-preserved-then-from-y : goal.loop-digits-preserved-then-from-y
+loop-digits-preserved-then-from-y c = (back c.loop-digits.invariant (omega arith) (omega arith)).0
 
 pub loop-digits-smaller-then-hopeless : goal.loop-digits-smaller-then-hopeless
 loop-digits-smaller-then-hopeless c = (bump c.loop-digits.invariant (omega arith) (c.hopeless.ensures c.if-hopeless.true)).1
@@ -29,12 +29,12 @@ pub returns-then-row_passes : goal.returns-then-row_passes
 unfolding Finds
 returns-then-row_passes c = found c.loop-digits.invariant (omega arith) c.row_passes.ensures c.if-row_passes.true
 
-pub loop-digits-smaller-then-pos-n : goal.loop-digits-smaller-then-pos-n
-loop-digits-smaller-then-pos-n c =
+pub loop-digits-smaller-then-pos-y : goal.loop-digits-smaller-then-pos-y
+loop-digits-smaller-then-pos-y c =
     (bump c.loop-digits.invariant (omega arith) (leaf c.loop-digits.invariant (omega arith) c.row_passes.ensures c.if-row_passes.false)).1
 
-pub loop-digits-preserved-then-pos-n : goal.loop-digits-preserved-then-pos-n
-loop-digits-preserved-then-pos-n c =
+pub loop-digits-preserved-then-pos-y : goal.loop-digits-preserved-then-pos-y
+loop-digits-preserved-then-pos-y c =
     (bump c.loop-digits.invariant (omega arith) (leaf c.loop-digits.invariant (omega arith) c.row_passes.ensures c.if-row_passes.false)).0
 
 pub loop-digits-smaller : goal.loop-digits-smaller

@@ -1,11 +1,8 @@
--- `unpack::words_in` meets its contract. The loop's invariant: the words before k are there, the others zero still.
-use Prim.Native.Nat.{◌-◌, ◌≤◌}
-use mathlib.Core.Path.{◌≡◌}
+-- The words before k are there, the others zero still.
+use Rattle.std.proofs.Common.{◌≡◌}
+use Rattle.layout.specs.Editions.{edition_number}
 use Rattle.unpack.specs.Unpack.{words_array}
 use Rattle.unpack.proofs.words_in.Given as goal
 
 abbrev pub invariant-loop-k : goal.invariant-loop-k
-invariant-loop-k l = (l.k ≤ l.m) × (l.words ≡ words_array l.f l.edition l.n l.k)
-
-abbrev pub decreases-loop-k : goal.decreases-loop-k
-decreases-loop-k l = l.m - l.k
+invariant-loop-k l = l.words ≡ words_array l.f (edition_number l.shape.edition) l.shape.tasks l.k

@@ -1,2 +1,0 @@
--- The law that the proofs of `fronts` share.
-pub mod Law

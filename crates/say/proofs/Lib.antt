@@ -1,2 +1,0 @@
--- What the proofs of `say` share.
-pub mod Size
