@@ -64,12 +64,12 @@ few n e = (bounds 1 most_tasks n e).1
 half_fits : (o : Outcome) (b : Bool) (unfit : ℕ) → (o ≡ Ok tt → unfit ≡ 0 → given o b ≡ Ok true) → (unfit_of (given o b) unfit ≡ Ok None) ↔ (given o b ≡ Ok true)
 half_fits (Ok done) true unfit h = (λ e. refl, λ e. refl)
 half_fits (Ok done) false unfit h =
-    (λ e. let n : numbered unfit ≡ None = cc in h refl ((numbered_none unfit).0 n), λ e. let z : ◌≡◌ {A = ℕ} 0 1 = cc in absurd (omega arith))
+    (λ e. let z : ◌≡◌ {A = ℕ} 0 1 = cc in absurd (omega arith), λ e. let z : ◌≡◌ {A = ℕ} 0 1 = cc in absurd (omega arith))
 half_fits (Err r) b unfit h = (λ e. let z : ◌≡◌ {A = ℕ} 0 1 = cc in absurd (omega arith), λ e. let z : ◌≡◌ {A = ℕ} 0 1 = cc in absurd (omega arith))
 
 half_names : (o : Outcome) (b : Bool) (unfit j : ℕ) → unfit_of (given o b) unfit ≡ Ok (Some j) → (o ≡ Ok tt) × (unfit ≡ j)
 half_names (Ok done) true unfit j e = let z : ◌≡◌ {A = ℕ} 0 1 = cc in absurd (omega arith)
-half_names (Ok done) false unfit j e = let n : numbered unfit ≡ Some j = cc in (refl, numbered_some unfit j n)
+half_names (Ok done) false unfit j e = (refl, cc)
 half_names (Err r) b unfit j e = let z : ◌≡◌ {A = ℕ} 0 1 = cc in absurd (omega arith)
 
 module _ (t : Table) (own catalogue : List ℕ) where

@@ -24,7 +24,7 @@ not_shown f = first_not_shown f
 -- the verdict's second half: by the region check's answer, and the number of the first job with a region above its length, or 0
 abbrev pub unfit_of : Result Bool Refusal → ℕ → Result (Option ℕ) Refusal
 unfit_of (Ok true) unfit = Ok None
-unfit_of (Ok false) unfit = Ok (numbered unfit)
+unfit_of (Ok false) unfit = Ok (Some unfit)
 unfit_of (Err r) unfit = Err r
 
 abbrev pub verdict_by : Result (List Response) Refusal → Facts → Result Verdict Refusal

@@ -2,7 +2,7 @@
 #![tactic(auto)]
 
 ghost use Rattle.std.specs.Prelude.{◌≡◌};
-ghost use Rattle.first_jobs.specs.Firsts.{numbered};
+ghost use Rattle.first_jobs.specs.Firsts.{numbered, first_unfit};
 ghost use Rattle.verdicts.specs.Verdicts.{first_note, not_shown, verdict_of};
 
 use paper::Refusal;
@@ -47,6 +47,15 @@ pub fn not_shown(f: &Facts) -> Option<usize>
     first_jobs::first_not_shown(f)
 }
 
+// The number of the first job with a region above its length. Where the check says no there is one (none_unfit_fits); were there none
+// the regions would still not be said to fit, and the number would be 0.
+#[tactic(auto, using(crate::proofs::Numbered::read_back))]
+fn too_long(f: &Facts) -> usize
+    ensures { result ≡ first_unfit f.now }
+{
+    first_jobs::first_unfit(f).unwrap_or(0)
+}
+
 // Turned away where the response times are.
 pub fn verdict_of(f: &Facts) -> Result<Verdict, Refusal>
     ensures { result ≡ verdict_of f.now }
@@ -54,7 +63,7 @@ pub fn verdict_of(f: &Facts) -> Result<Verdict, Refusal>
     f.times?;
     let unfit = match f.check {
         Ok(true) => Ok(None),
-        Ok(false) => Ok(first_jobs::first_unfit(f)),
+        Ok(false) => Ok(Some(too_long(f))),
         Err(r) => Err(r),
     };
     Ok(Verdict {
