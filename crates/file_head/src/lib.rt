@@ -16,7 +16,7 @@ pub fn head(file: &[u8], plate: Plate) -> Result<Shape, Refusal>
     if file.len() < layout::SHORTEST {
         return Err(Refusal::Short);
     }
-    let edition = layout::edition_of(file)?;
+    let edition = layout::known_edition(file)?;
     let its = layout::plate_of(file);
     let blank = checks::plate_is_blank(its) || checks::plate_is_blank(plate);
     if blank {
