@@ -3,7 +3,8 @@
 
 ghost use Rattle.std.specs.Prelude.{◌≡◌, IfOk};
 ghost use Rattle.paper.specs.Refusals.{first_of};
-ghost use Rattle.file_head.specs.Asks.{outcome_of, head_asks, IsShape};
+ghost use Rattle.paper.specs.Answers.{outcome_of};
+ghost use Rattle.file_head.specs.Asks.{head_asks, IsShape};
 
 use layout::Shape;
 use paper::{Plate, Refusal};

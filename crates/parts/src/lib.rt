@@ -4,8 +4,7 @@
 
 ghost use Rattle.std.specs.Prelude.{◌≡◌, cond, ◌&&◌, ◌+◌, ◌*◌, ◌≤◌, leb, length, IfOk};
 ghost use Rattle.paper.specs.Regions.{list_of, in_cabinet_list, name_width, name_list, name_start, trimmed};
-ghost use Rattle.paper.specs.Answers.{record_outcome, regions_outcome, name_outcome};
-ghost use Rattle.file_head.specs.Asks.{outcome_of};
+ghost use Rattle.paper.specs.Answers.{record_outcome, regions_outcome, name_outcome, outcome_of};
 ghost use Rattle.parts.specs.Parts.{IsName, slice_of, AreRegions, IsRecord};
 
 use paper::{Plate, Refusal, Source, Table};
