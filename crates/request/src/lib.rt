@@ -56,14 +56,6 @@ pub struct Words {
 impl Words {
     ghost use Rattle.std.specs.Prelude.{◌≤◌, length};
 
-    // Where there is room.
-    fn push(&mut self, word: u32) {
-        if self.count < MOST_BODY_WORDS {
-            self.list[self.count] = word;
-            self.count += 1;
-        }
-    }
-
     pub fn as_slice(&self) -> &[u32]
         ensures { length result.now ≤ 1024 }
     {
@@ -136,10 +128,10 @@ impl<'a> Body<'a> {
         let kept = count.min(MOST_BODY_WORDS);
         let mut words = Words {
             list: [0; MOST_BODY_WORDS],
-            count: 0,
+            count: kept,
         };
-        for _ in 0..kept {
-            words.push(self.four());
+        for k in 0..kept {
+            words.list[k] = self.four();
         }
         self.skip((count - kept) * 4);
         words
