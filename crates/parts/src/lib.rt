@@ -37,7 +37,7 @@ fn name_start(number: u32) -> usize
     }
 }
 
-// How many bytes of the entry at `at` stay without the trailing spaces. From the end, where few names have many.
+// How many bytes of the entry at `at` stay without the trailing spaces. Looked for from the end, as few names have many there.
 #[tactic(auto, using(crate::proofs::NameParts::name_ends))]
 fn kept(s: &[u8], at: usize) -> usize
     requires { at + name_width ≤ length s.now }

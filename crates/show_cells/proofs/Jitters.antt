@@ -59,6 +59,20 @@ others_stand f Fit h = refl
 others_stand f Points h = refl
 
 -- and so by places, of which the jitters' column has 3
+pub stands_in_row : (f : Facts) (column : Column) → column_stands f column ≡ stands_at f (place_of column)
+stands_in_row f Cost = refl
+stands_in_row f Period = refl
+stands_in_row f Deadline = refl
+stands_in_row f Jitter = refl
+stands_in_row f Priority = refl
+stands_in_row f Threshold = refl
+stands_in_row f Time = refl
+stands_in_row f Slack = refl
+stands_in_row f Tolerance = refl
+stands_in_row f Length = refl
+stands_in_row f Fit = refl
+stands_in_row f Points = refl
+
 pub jitters_place : (f : Facts) → stands_at f 3 ≡ column_stands f Jitter
 jitters_place f = refl
 

@@ -5,7 +5,7 @@
 ghost use Rattle.std.specs.Prelude.{◌<◌, ◌≡◌, get_or};
 ghost use Rattle.std.specs.Result.{result_unwrap_or};
 ghost use Rattle.paper.specs.Numbers.{most_tasks};
-ghost use Rattle.show_cells.specs.Cells.{place_cell, time_cell, slack_cell, ticks_cell, fit_cell, verdict_cell, cell_of, place_of, cells_of, column_stands};
+ghost use Rattle.show_cells.specs.Cells.{place_cell, time_cell, slack_cell, ticks_cell, fit_cell, verdict_cell, cell_of, place_of, cells_of, column_stands, stands_at};
 
 use cells::Cell;
 use paper::{Refusal, Shown};
@@ -128,8 +128,10 @@ pub fn cell(f: &Facts, k: usize, column: Column) -> Cell
 }
 
 // The column of the jitters is left out where every jitter is 0.
+#[tactic(auto, using(crate::proofs::Jitters::stands_in_row))]
 pub fn column_stands(f: &Facts, column: Column) -> bool
-    ensures { result ≡ column_stands f.now column }
+    ensures value { result ≡ column_stands f.now column }
+    ensures in_row { result ≡ stands_at f.now (place_of column) }
 {
     match column {
         Column::Jitter => first_jobs::first_jitter(f).is_some(),
