@@ -13,9 +13,12 @@ use columns::{Numbers, Tasks};
 use paper::{Cabinet, Line, Plate, Refusal, Shown, Table};
 use request::Body;
 
-// 0 where there is an answer.
-fn number<T: Copy>(answer: Result<T, Refusal>) -> u64 {
-    answer.err().map_or(0, numbers::number_of)
+// 0 where there is an answer, which is not copied for it.
+fn number<T>(answer: &Result<T, Refusal>) -> u64 {
+    match answer {
+        Ok(_) => 0,
+        Err(r) => numbers::number_of(*r),
+    }
 }
 
 fn table_in(bytes: &[u8]) -> Table {
@@ -30,12 +33,12 @@ fn plate(cabinet: u32, line: u16) -> Plate {
 }
 
 pub fn bench_read(file: &[u8], cabinet: u32, line: u16, out: &mut [u32]) -> u64 {
-    number(reader::read(file, plate(cabinet, line), &[], out))
+    number(&reader::read(file, plate(cabinet, line), &[], out))
 }
 
 // Edition 1.
 pub fn bench_write(table: &[u8], own: &[u32], out: &mut [u8]) -> u64 {
-    number(writer::write(1, table_in(table), plate(70001, 12), own, &[], out))
+    number(&writer::write(1, table_in(table), plate(70001, 12), own, &[], out))
 }
 
 // The seal of the bytes s, as reading and writing use it.
@@ -73,11 +76,11 @@ pub fn bench_tolerances(table: &[u8]) -> i64 {
 }
 
 pub fn bench_lengths(table: &[u8]) -> u64 {
-    number(lengths::lengths(table_in(table)))
+    number(&lengths::lengths(table_in(table)))
 }
 
 pub fn bench_fit(table: &[u8], own: &[u32]) -> u64 {
-    number(lengths::region_check(table_in(table), own, &[]))
+    number(&lengths::region_check(table_in(table), own, &[]))
 }
 
 // How many tasks pass the test of fixed preemption points; none where the call is turned away.
@@ -92,11 +95,11 @@ pub fn bench_points(table: &[u8], own: &[u32]) -> u64 {
 }
 
 pub fn bench_first(table: &[u8], out: &mut [u8]) -> u64 {
-    number(listing::first_row(table_in(table), out))
+    number(&listing::first_row(table_in(table), out))
 }
 
 pub fn bench_next(table: &[u8], given: &[u8], out: &mut [u8]) -> u64 {
-    number(listing::next_row(table_in(table), given, out))
+    number(&listing::next_row(table_in(table), given, out))
 }
 
 // The parts: how many bytes or words there are, none where the call is turned away.

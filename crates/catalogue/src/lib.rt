@@ -6,7 +6,7 @@ ghost use Rattle.std.specs.Prelude.{◌≤◌};
 use std::fmt;
 
 // The most words that the records of a file can name: first and count are at most 127.
-const MOST_NAMED: usize = 254;
+pub const MOST_NAMED: usize = 254;
 
 #[derive(Clone, Copy)]
 pub struct Catalogue {
@@ -32,6 +32,8 @@ impl fmt::Display for WrongLine {
 }
 
 impl Catalogue {
+    ghost use Rattle.std.specs.Prelude.{◌≤◌, length};
+
     pub fn new() -> Self {
         Catalogue {
             list: [0; MOST_NAMED],
@@ -63,7 +65,9 @@ impl Catalogue {
         }
     }
 
-    pub fn as_slice(&self) -> &[u32] {
+    pub fn as_slice(&self) -> &[u32]
+        ensures { length result.now ≤ 254 }
+    {
         &self.list[..self.words]
     }
 }

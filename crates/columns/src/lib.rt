@@ -49,16 +49,74 @@ pub fn column_of(rs: &[Record; MOST_TASKS], which: Column) -> Numbers
     xs
 }
 
-// Tasks on which the analysis may run: their number and their columns. Priorities and thresholds stand beside it, because the
-// listing makes them anew for each row.
+// The numbers of tasks, whatever they are: a column for each kind. Priorities and thresholds stand beside it, because the listing
+// makes them anew for each row.
+#[derive(Clone, Copy)]
+pub struct Columns {
+    pub costs: Numbers,
+    pub periods: Numbers,
+    pub deadlines: Numbers,
+    pub jitters: Numbers,
+}
+
+impl Columns {
+    ghost use Rattle.std.specs.Prelude.{◌≡◌, ◌<◌, get_or, length};
+    ghost use Rattle.paper.specs.Numbers.{most_tasks};
+    ghost use Rattle.columns.specs.Columns.{column_of};
+    ghost use Rattle.columns.specs.declared.Column.TheVariants.{Cost, Period, Deadline, Jitter};
+
+    // Of all records, those past n too.
+    pub fn new(rs: &[Record; MOST_TASKS]) -> Columns
+        ensures costs { result.costs ≡ column_of rs.now Cost }
+        ensures periods { result.periods ≡ column_of rs.now Period }
+        ensures deadlines { result.deadlines ≡ column_of rs.now Deadline }
+        ensures jitters { result.jitters ≡ column_of rs.now Jitter }
+        ensures rs_len { length rs.now ≡ most_tasks }
+    {
+        Columns {
+            costs: column_of(rs, Column::Cost),
+            periods: column_of(rs, Column::Period),
+            deadlines: column_of(rs, Column::Deadline),
+            jitters: column_of(rs, Column::Jitter),
+        }
+    }
+
+    // C(k), T(k), D(k) and J(k).
+    pub fn cost(&self, k: usize) -> u64
+        requires { k < most_tasks }
+        ensures { result ≡ get_or self.now.costs k 0 }
+    {
+        self.costs[k]
+    }
+
+    pub fn period(&self, k: usize) -> u64
+        requires { k < most_tasks }
+        ensures { result ≡ get_or self.now.periods k 0 }
+    {
+        self.periods[k]
+    }
+
+    pub fn deadline(&self, k: usize) -> u64
+        requires { k < most_tasks }
+        ensures { result ≡ get_or self.now.deadlines k 0 }
+    {
+        self.deadlines[k]
+    }
+
+    pub fn jitter(&self, k: usize) -> u64
+        requires { k < most_tasks }
+        ensures { result ≡ get_or self.now.jitters k 0 }
+    {
+        self.jitters[k]
+    }
+}
+
+// Tasks on which the analysis may run: their number and their columns.
 #[derive(Clone, Copy)]
 pub struct Tasks {
     pub n: usize,
-    costs: Numbers,
-    periods: Numbers,
-    deadlines: Numbers,
-    jitters: Numbers,
-    ghost ranged: { Ranged (tasks_by n costs periods deadlines jitters) },
+    pub columns: Columns,
+    ghost ranged: { Ranged (tasks_by n columns.costs columns.periods columns.deadlines columns.jitters) },
 }
 
 impl Tasks {
@@ -75,10 +133,7 @@ impl Tasks {
     {
         Tasks {
             n: t.n,
-            costs: column_of(&t.records, Column::Cost),
-            periods: column_of(&t.records, Column::Period),
-            deadlines: column_of(&t.records, Column::Deadline),
-            jitters: column_of(&t.records, Column::Jitter),
+            columns: Columns::new(&t.records),
         }
     }
 
@@ -95,10 +150,12 @@ impl Tasks {
     {
         Tasks {
             n,
-            costs: *costs,
-            periods: *periods,
-            deadlines: *deadlines,
-            jitters: *jitters,
+            columns: Columns {
+                costs: *costs,
+                periods: *periods,
+                deadlines: *deadlines,
+                jitters: *jitters,
+            },
         }
     }
 
@@ -107,27 +164,27 @@ impl Tasks {
         requires { k < most_tasks }
         ensures { result ≡ (tasks_in self.now).c k }
     {
-        self.costs[k]
+        self.columns.cost(k)
     }
 
     pub fn period(&self, k: usize) -> u64
         requires { k < most_tasks }
         ensures { result ≡ (tasks_in self.now).t k }
     {
-        self.periods[k]
+        self.columns.period(k)
     }
 
     pub fn deadline(&self, k: usize) -> u64
         requires { k < most_tasks }
         ensures { result ≡ (tasks_in self.now).d k }
     {
-        self.deadlines[k]
+        self.columns.deadline(k)
     }
 
     pub fn jitter(&self, k: usize) -> u64
         requires { k < most_tasks }
         ensures { result ≡ (tasks_in self.now).j k }
     {
-        self.jitters[k]
+        self.columns.jitter(k)
     }
 }

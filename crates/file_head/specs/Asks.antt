@@ -1,17 +1,10 @@
 -- The asks of the first stage of reading, taken off the paper's list, and what is known of a file that passes them.
-use Rattle.std.specs.Prelude.{ℕ, ◌≡◌, List, [], length, take, Result, Ok, Err}
+use Rattle.std.specs.Prelude.{ℕ, ◌≡◌, List, [], length, take}
 use Rattle.paper.specs.File.{edition_in, tasks_in, words_in}
-use Rattle.paper.specs.Refusals.{Outcome, Asks, file_asks}
-use Rattle.paper.specs.declared.Refusal.{Refusal}
+use Rattle.paper.specs.Refusals.{Asks, file_asks}
 use Rattle.layout.specs.declared.shape.Shape.{Shape}
 use Rattle.layout.specs.Editions.{edition_number}
 use Rattle.layout.specs.Shapes.{length_of}
-
-module _ {A : Type 0} where
-  -- an answer without what it hands back
-  abbrev pub outcome_of : Result A Refusal → Outcome
-  outcome_of (Ok a) = Ok tt
-  outcome_of (Err r) = Err r
 
 -- asks 1, 2, 18, 3 to 6, in which no catalogue plays a part
 abbrev pub head_asks : List ℕ → ℕ → ℕ → Asks

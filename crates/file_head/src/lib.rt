@@ -3,7 +3,8 @@
 
 ghost use Rattle.std.specs.Prelude.{◌≡◌, IfOk};
 ghost use Rattle.paper.specs.Refusals.{first_of};
-ghost use Rattle.file_head.specs.Asks.{outcome_of, head_asks, IsShape};
+ghost use Rattle.paper.specs.Answers.{outcome_of};
+ghost use Rattle.file_head.specs.Asks.{head_asks, IsShape};
 
 use layout::Shape;
 use paper::{Plate, Refusal};
@@ -16,7 +17,7 @@ pub fn head(file: &[u8], plate: Plate) -> Result<Shape, Refusal>
     if file.len() < layout::SHORTEST {
         return Err(Refusal::Short);
     }
-    let edition = layout::edition_of(file)?;
+    let edition = layout::known_edition(file)?;
     let its = layout::plate_of(file);
     let blank = checks::plate_is_blank(its) || checks::plate_is_blank(plate);
     if blank {

@@ -3,13 +3,14 @@
 #![tactic(auto)]
 
 ghost use Rattle.std.specs.Prelude.{◌≡◌, cond, ◌&&◌, ◌<◌, ◌≤◌, leb, ltb};
+ghost use Rattle.paper.specs.Numbers.{most_tasks};
 ghost use Rattle.paper.specs.Analysis.{blocking};
 ghost use Rattle.columns.specs.Columns.{assigned_by, ranked_by};
-ghost use Rattle.columns.specs.Tasks.{tasks_in};
+ghost use Rattle.columns.specs.Tasks.{tasks_on, tasks_in};
 ghost use Rattle.jobs.specs.Stands.{stand_of, Stands};
 
 use climb::Equation;
-use columns::{Numbers, Tasks};
+use columns::{Columns, Numbers, Tasks};
 
 // Where a task stands: its number i, for how long, b, it is blocked, its priority and its threshold.
 #[derive(Clone, Copy, Debug, PartialEq, Eq)]
@@ -35,24 +36,25 @@ fn block_part(own: u64, c: u64, p: u64, h: u64) -> u64
 }
 
 #[tactic(auto, using(laws::proofs::Turns::largest), unfolding(paper::specs::Vocabulary::max_to, paper::specs::Analysis::blocking, paper::specs::Analysis::blocks))]
-fn blocking(y: &Tasks, p: &Numbers, h: &Numbers, i: usize) -> u64
-    requires { i < y.now.n }
-    ensures { result ≡ blocking (tasks_in y.now) (assigned_by p.now h.now) i }
+fn blocking(n: usize, y: &Columns, p: &Numbers, h: &Numbers, i: usize) -> u64
+    requires { (i < n) × (n ≤ most_tasks) }
+    ensures { result ≡ blocking (tasks_on n y.now) (assigned_by p.now h.now) i }
 {
     let own = p[i];
     let mut most: u64 = 0;
-    for j in 0..y.n {
+    for j in 0..n {
         most = most.max(block_part(own, y.cost(j), p[j], h[j]));
     }
     most
 }
 
-fn stand_of(y: &Tasks, p: &Numbers, h: &Numbers, i: usize) -> Stand
-    requires { i < y.now.n }
-    ensures { result ≡ stand_of (tasks_in y.now) (assigned_by p.now h.now) i }
+// Where task i of n stands, whatever the numbers in the columns are.
+pub fn stand_of(n: usize, y: &Columns, p: &Numbers, h: &Numbers, i: usize) -> Stand
+    requires { (i < n) × (n ≤ most_tasks) }
+    ensures { result ≡ stand_of (tasks_on n y.now) (assigned_by p.now h.now) i }
 {
     // A blocker has run for a tick when the task arrives.
-    let b = blocking(y, p, h, i).saturating_sub(1);
+    let b = blocking(n, y, p, h, i).saturating_sub(1);
     Stand {
         i,
         b,
@@ -76,9 +78,24 @@ impl<'a> Task<'a> {
     ghost use Rattle.paper.specs.Analysis.{level_of, start_sum, start_of, finish_of};
     ghost use Rattle.columns.specs.Columns.{ranked_by, assigned_by, Placed};
     ghost use Rattle.columns.specs.Tasks.{tasks_in};
-    ghost use Rattle.jobs.specs.Stands.{stand_of, Climbs, ran_of, job_count};
+    ghost use Rattle.jobs.specs.Stands.{stand_of, Stands, Climbs, ran_of, job_count};
     ghost use Rattle.jobs.specs.Task.{tasks_at, standing_at};
 
+    // The task that stands so.
+    pub fn standing(y: &'a Tasks, p: &'a Numbers, stand: Stand) -> Task<'a>
+        requires { Stands (tasks_in y.now) (ranked_by p.now) stand }
+        ensures all { result.all.now ≡ y.now }
+        ensures priorities { result.priorities.now ≡ p.now }
+        ensures stand { result.stand ≡ stand }
+    {
+        Task {
+            all: y,
+            priorities: p,
+            stand,
+        }
+    }
+
+    // Task i.
     pub fn new(y: &'a Tasks, p: &'a Numbers, h: &Numbers, i: usize) -> Task<'a>
         requires placed { Placed y.now.n (assigned_by p.now h.now) }
         requires among { i < y.now.n }
@@ -86,11 +103,7 @@ impl<'a> Task<'a> {
         ensures priorities { result.priorities.now ≡ p.now }
         ensures stand { result.stand ≡ stand_of (tasks_in y.now) (assigned_by p.now h.now) i }
     {
-        Task {
-            all: y,
-            priorities: p,
-            stand: stand_of(y, p, h, i),
-        }
+        Task::standing(y, p, stand_of(y.n, &y.columns, p, h, i))
     }
 
     // L. The task counts itself, so that L is above 0.

@@ -4,10 +4,9 @@ use mathlib.Core.Path.{◌≡◌, sym, ◌∙◌}
 use mathlib.Core.List.{List}
 use denote.Ref.{Bor}
 use Rattle.std.specs.Prelude.{Result, IfOk}
-use Rattle.paper.specs.Answers.{regions_outcome}
+use Rattle.paper.specs.Answers.{regions_outcome, outcome_of}
 use Rattle.paper.specs.declared.Refusal.{Refusal}
 use Rattle.paper.specs.declared.Table.{Table}
-use Rattle.file_head.specs.Asks.{outcome_of}
 use Rattle.parts.proofs.OnePart.{Same, one_place, SameAnswer, one_answer}
 use Rattle.last_part.specs.Last.{IsLast}
 

@@ -3,8 +3,7 @@
 #![tactic(auto)]
 
 ghost use Rattle.std.specs.Prelude.{◌≡◌, IfOk};
-ghost use Rattle.paper.specs.Answers.{regions_outcome};
-ghost use Rattle.file_head.specs.Asks.{outcome_of};
+ghost use Rattle.paper.specs.Answers.{regions_outcome, outcome_of};
 ghost use Rattle.last_part.specs.Last.{IsLast};
 
 use paper::{Refusal, Table};

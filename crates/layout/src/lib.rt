@@ -40,7 +40,7 @@ pub fn is_edition(edition: u8) -> bool
 }
 
 // The number that the file gives for its edition,
-pub fn edition_told(f: &[u8]) -> u8
+pub fn edition_of(f: &[u8]) -> u8
     requires { 8 ≤ length f.now }
     ensures { result ≡ edition_in f.now }
 {
@@ -48,11 +48,11 @@ pub fn edition_told(f: &[u8]) -> u8
 }
 
 // and the edition, or 2 where the number is none's.
-pub fn edition_of(f: &[u8]) -> Result<Edition, Refusal>
+pub fn known_edition(f: &[u8]) -> Result<Edition, Refusal>
     requires { 8 ≤ length f.now }
     ensures { result ≡ edition_for (edition_in f.now) }
 {
-    Edition::try_from(edition_told(f))
+    Edition::try_from(edition_of(f))
 }
 
 // The plate that the file was made for.

@@ -30,6 +30,11 @@ module _ {A : Type 0} where
   when_done (Ok done) a b = a
   when_done (Err r) a b = b
 
+  -- an answer without what it hands back
+  abbrev pub outcome_of : Result A Refusal → Outcome
+  outcome_of (Ok a) = Ok tt
+  outcome_of (Err r) = Err r
+
 -- Reading: the edition, the table and m; and the m region words at the front of the output
 abbrev pub reading_of : List ℕ → Reading
 reading_of f = record { edition = edition_in f; table = table_in f; words = words_in f }

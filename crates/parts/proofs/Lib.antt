@@ -1,3 +1,4 @@
+pub mod NameParts
 pub mod RegionParts
 pub mod RecordParts
 pub mod OnePart

@@ -8,8 +8,7 @@ use Rattle.paper.specs.declared.Refusal.{Refusal}
 use Rattle.paper.specs.declared.Table.{Table}
 use Rattle.paper.specs.Regions.{Part}
 use Rattle.paper.specs.Refusals.{Outcome}
-use Rattle.paper.specs.Answers.{record_outcome, regions_outcome, name_outcome}
-use Rattle.file_head.specs.Asks.{outcome_of}
+use Rattle.paper.specs.Answers.{record_outcome, regions_outcome, name_outcome, outcome_of}
 use Rattle.parts.specs.Parts.{LiesIn, IsName, AreRegions, IsRecord}
 
 abbrev pub Same : Bor (List ℕ) → Bor (List ℕ) → Type 0

@@ -4,8 +4,7 @@
 
 ghost use Rattle.std.specs.Prelude.{◌≡◌, cond, ◌&&◌, ◌+◌, ◌*◌, ◌≤◌, leb, length, IfOk};
 ghost use Rattle.paper.specs.Regions.{list_of, in_cabinet_list, name_width, name_list, name_start, trimmed};
-ghost use Rattle.paper.specs.Answers.{record_outcome, regions_outcome, name_outcome};
-ghost use Rattle.file_head.specs.Asks.{outcome_of};
+ghost use Rattle.paper.specs.Answers.{record_outcome, regions_outcome, name_outcome, outcome_of};
 ghost use Rattle.parts.specs.Parts.{IsName, slice_of, AreRegions, IsRecord};
 
 use paper::{Plate, Refusal, Source, Table};
@@ -38,41 +37,51 @@ fn name_start(number: u32) -> usize
     }
 }
 
-// How many bytes of the entry at `at` stay without the trailing spaces.
-#[tactic(auto, unfolding(paper::specs::Regions::trimmed))]
+// How many bytes of the entry at `at` stay without the trailing spaces. Looked for from the end, as few names have many there.
+#[tactic(auto, using(crate::proofs::NameParts::name_ends))]
 fn kept(s: &[u8], at: usize) -> usize
     requires { at + name_width ≤ length s.now }
     ensures value { result ≡ trimmed s.now at name_width }
     ensures upper_bound { result ≤ name_width }
 {
-    let mut stay = 0;
-    for k in 0..NAME_BYTES {
-        if s[at + k] != b' ' {
-            stay = k + 1;
+    for gone in 0..NAME_BYTES {
+        let last = NAME_BYTES - 1 - gone;
+        if s[at + last] != b' ' {
+            return last + 1;
         }
     }
-    stay
+    0
+}
+
+// Where the entry of a name that is there begins in its list.
+fn name_entry(number: u32, cabinet: &[u8], house: &[u8]) -> Result<usize, Refusal>
+    ensures outcome { outcome_of result ≡ name_outcome number cabinet.now house.now }
+    ensures begins { IfOk result (λ at. at ≡ name_start number) }
+    ensures inside { IfOk result (λ at. at + name_width ≤ length (name_list number cabinet.now house.now)) }
+{
+    if paper::MOST_NAME < number {
+        return Err(Refusal::OutOfRange);
+    }
+    let at = name_start(number);
+    if name_list(number, cabinet, house).len() < at + NAME_BYTES {
+        return Err(Refusal::NoSuchPart);
+    }
+    Ok(at)
 }
 
 pub fn name<'a>(number: u32, cabinet: &'a [u8], house: &'a [u8]) -> Result<&'a [u8], Refusal>
     ensures outcome { outcome_of result ≡ name_outcome number cabinet.now house.now }
     ensures part { IfOk result (IsName number cabinet.entry house.entry) }
 {
-    if paper::MOST_NAME < number {
-        return Err(Refusal::OutOfRange);
-    }
+    let at = name_entry(number, cabinet, house)?;
     let list = name_list(number, cabinet, house);
-    let at = name_start(number);
-    if list.len() < at + NAME_BYTES {
-        return Err(Refusal::NoSuchPart);
-    }
     Ok(&list[at..at + kept(list, at)])
 }
 
 pub fn name_outcome(number: u32, cabinet: &[u8], house: &[u8]) -> Result<(), Refusal>
     ensures { result ≡ name_outcome number cabinet.now house.now }
 {
-    name(number, cabinet, house).map(|_| ())
+    name_entry(number, cabinet, house).map(|_| ())
 }
 
 pub fn name_bytes<'a>(number: u32, cabinet: &'a [u8], house: &'a [u8]) -> &'a [u8]

@@ -3,8 +3,8 @@
 
 ghost use Rattle.std.specs.Prelude.{◌≡◌, length, IfOk};
 ghost use Rattle.paper.specs.Refusals.{first_of, file_asks};
-ghost use Rattle.paper.specs.Answers.{read_answer, read_out};
-ghost use Rattle.file_head.specs.Asks.{outcome_of, head_asks, IsShape};
+ghost use Rattle.paper.specs.Answers.{read_answer, read_out, outcome_of};
+ghost use Rattle.file_head.specs.Asks.{head_asks, IsShape};
 ghost use Rattle.reader.specs.Stages.{body_asks, IsContents};
 
 use layout::Shape;

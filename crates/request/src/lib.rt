@@ -41,9 +41,9 @@ pub fn plate_and_file(input: &[u8]) -> Option<(Plate, &[u8])> {
 }
 
 // How long a record is in a body, and a table: n, then always as many records as a table may hold.
-const RECORD_BYTES: usize = 10 * 4;
+pub const RECORD_BYTES: usize = 10 * 4;
 
-const TABLE_BYTES: usize = 1 + RECORD_BYTES * MOST_TASKS;
+pub const TABLE_BYTES: usize = 1 + RECORD_BYTES * MOST_TASKS;
 
 // The words of a piece.
 #[derive(Clone, Copy)]
@@ -54,7 +54,11 @@ pub struct Words {
 }
 
 impl Words {
-    pub fn as_slice(&self) -> &[u32] {
+    ghost use Rattle.std.specs.Prelude.{◌≤◌, length};
+
+    pub fn as_slice(&self) -> &[u32]
+        ensures { length result.now ≤ 1024 }
+    {
         &self.list[..self.count]
     }
 }
@@ -87,7 +91,12 @@ impl<'a> Body<'a> {
         u16::from_be_bytes([self.byte(), self.byte()])
     }
 
+    // At once where there are as many, which is quicker.
     fn four(&mut self) -> u32 {
+        if let Some([a, b, c, d, ..]) = self.bytes.get(self.at..) {
+            self.skip(4);
+            return u32::from_be_bytes([*a, *b, *c, *d]);
+        }
         u32::from_be_bytes([self.byte(), self.byte(), self.byte(), self.byte()])
     }
 
@@ -111,16 +120,21 @@ impl<'a> Body<'a> {
         &[]
     }
 
-    // A piece of words: two bytes say how many, four bytes each. More than a body has room for are left out.
+    // A piece of words: two bytes say how many, four bytes each. More than a body has room for are left out. Compiled in place it
+    // would take room on the stack of whoever takes words or none.
+    #[inline(never)]
     pub fn words(&mut self) -> Words {
         let count = self.two() as usize;
         let kept = count.min(MOST_BODY_WORDS);
-        let mut list = [0; MOST_BODY_WORDS];
+        let mut words = Words {
+            list: [0; MOST_BODY_WORDS],
+            count: kept,
+        };
         for k in 0..kept {
-            list[k] = self.four();
+            words.list[k] = self.four();
         }
         self.skip((count - kept) * 4);
-        Words { list, count: kept }
+        words
     }
 
     // The source word: 0 own, else catalogue.
@@ -172,6 +186,9 @@ impl<'a> Body<'a> {
     }
 }
 
+// No body is as long: two bytes give its length.
+const TOO_LONG: usize = 65536;
+
 // A request of a known kind, with a body that is just as long as its pieces. A kind is a byte of the protocol (docs/ASK.md) and no
 // enum: any may come in.
 pub fn is_whole(kind: u8, bytes: &[u8]) -> bool {
@@ -211,5 +228,5 @@ pub fn is_whole(kind: u8, bytes: &[u8]) -> bool {
         }
         _ => return false,
     }
-    body.at == bytes.len()
+    body.at == bytes.len() && bytes.len() < TOO_LONG
 }

@@ -33,6 +33,9 @@ impl<'a, T: fmt::Display> fmt::Display for Spaced<'a, T> {
     }
 }
 
+// How many bytes are turned into digits at once. A call for each byte takes five times as long.
+const PIECE: usize = 64;
+
 // Bytes in one hexadecimal run behind a space, nothing where there are none.
 #[derive(Clone, Copy)]
 pub struct Hexadecimal<'a>(pub &'a [u8]);
@@ -40,13 +43,21 @@ pub struct Hexadecimal<'a>(pub &'a [u8]);
 impl<'a> fmt::Display for Hexadecimal<'a> {
     fn fmt<W: fmt::Write>(&self, f: &mut fmt::Formatter<W>) -> fmt::Result {
         if !self.0.is_empty() {
-            write!(f, " ")?;
+            f.write_str(" ")?;
         }
-        for b in self.0 {
-            write!(f, "{b:02x}")?;
+        for piece in self.0.chunks(PIECE) {
+            put_piece(f, piece)?;
         }
         Ok(())
     }
+}
+
+// A piece, at most as long as one may be.
+fn put_piece<W: fmt::Write>(f: &mut fmt::Formatter<W>, piece: &[u8]) -> fmt::Result {
+    let mut room = [0; 2 * PIECE];
+    let digits = &mut room[..2 * piece.len().min(PIECE)];
+    hex::encode_to_slice(piece, digits).map_err(|_| fmt::Error)?;
+    f.write_str(str::from_utf8(digits).map_err(|_| fmt::Error)?)
 }
 
 // Bytes as they can be shown, since a list of names may hold anything.

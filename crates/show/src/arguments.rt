@@ -1,5 +1,7 @@
 // The files that the arguments name. What is wrong with one is said on standard error, a line for each.
 
+ghost use Rattle.std.specs.Prelude.{◌≤◌, length};
+
 use catalogue::Catalogue;
 use std::env::{Env, FillError};
 use std::fs;
@@ -77,7 +79,9 @@ fn names_in<'a, R: Eprint, F: Read>(
     file: &mut F,
     path: &str,
     list: &'a mut [u8],
-) -> &'a [u8] {
+) -> &'a [u8]
+    ensures { length result.now ≤ length list.old }
+{
     match intake::read_whole(file, list) {
         Ok(bytes) => {
             tell_length(rt, path, bytes);
@@ -96,7 +100,9 @@ pub fn read_names<'a, R: Files + Env + Eprint>(
     argument: usize,
     what: &str,
     list: &'a mut [u8],
-) -> &'a [u8] {
+) -> &'a [u8]
+    ensures { length result.now ≤ length list.old }
+{
     let mut buf = io::buffer();
     let Ok(Some(path)) = path_of(rt, argument, what, &mut buf) else {
         return &[];

@@ -14,7 +14,7 @@ fn ends_before<'a>(number: u32, names: Names<'a>) -> bool {
     } else {
         names.house
     };
-    !list.is_empty() && parts::name(number, names.cabinet, names.house).is_err()
+    !list.is_empty() && parts::name_outcome(number, names.cabinet, names.house).is_err()
 }
 
 // The first such job is named.

@@ -61,6 +61,21 @@ cell_of f k Points = shown f.points (λ points. verdict_cell (get_or points k No
 abbrev pub columns : List Column
 columns = Cost ∷ Period ∷ Deadline ∷ Jitter ∷ Priority ∷ Threshold ∷ Time ∷ Slack ∷ Tolerance ∷ Length ∷ Fit ∷ Points ∷ []
 
+-- the place of a column among these
+abbrev pub place_of : Column → ℕ
+place_of Cost = 0
+place_of Period = 1
+place_of Deadline = 2
+place_of Jitter = 3
+place_of Priority = 4
+place_of Threshold = 5
+place_of Time = 6
+place_of Slack = 7
+place_of Tolerance = 8
+place_of Length = 9
+place_of Fit = 10
+place_of Points = 11
+
 -- the cells of job k + 1
 abbrev pub cells_of : Facts → ℕ → List Cell
 cells_of f k = map (cell_of f k) columns
@@ -69,3 +84,7 @@ cells_of f k = map (cell_of f k) columns
 abbrev pub column_stands : Facts → Column → Bool
 column_stands f Jitter = ltb 0 (first_jitter f)
 column_stands f _ = true
+
+-- the same by places: past the last column there is none to leave out
+abbrev pub stands_at : Facts → ℕ → Bool
+stands_at f place = get_or (map (column_stands f) columns) place true

@@ -2,10 +2,10 @@
 // calls' answers.
 #![tactic(auto)]
 
-ghost use Rattle.std.specs.Prelude.{◌<◌, ◌≡◌};
+ghost use Rattle.std.specs.Prelude.{◌<◌, ◌≡◌, get_or};
 ghost use Rattle.std.specs.Result.{result_unwrap_or};
 ghost use Rattle.paper.specs.Numbers.{most_tasks};
-ghost use Rattle.show_cells.specs.Cells.{place_cell, time_cell, slack_cell, ticks_cell, fit_cell, verdict_cell, cell_of, column_stands};
+ghost use Rattle.show_cells.specs.Cells.{place_cell, time_cell, slack_cell, ticks_cell, fit_cell, verdict_cell, cell_of, place_of, cells_of, column_stands, stands_at};
 
 use cells::Cell;
 use paper::{Refusal, Shown};
@@ -118,16 +118,20 @@ fn answer(f: &Facts, k: usize, column: Column) -> Result<Cell, Refusal>
 }
 
 // The cell of job k + 1: a dash where the call that would give it turned the table away.
+#[tactic(auto, using(crate::proofs::Jitters::in_row))]
 pub fn cell(f: &Facts, k: usize, column: Column) -> Cell
     requires { k < most_tasks }
-    ensures { result ≡ cell_of f.now k column }
+    ensures value { result ≡ cell_of f.now k column }
+    ensures in_row { result ≡ get_or (cells_of f.now k) (place_of column) Cell.Dash }
 {
     answer(f, k, column).unwrap_or(Cell::Dash)
 }
 
 // The column of the jitters is left out where every jitter is 0.
+#[tactic(auto, using(crate::proofs::Jitters::stands_in_row))]
 pub fn column_stands(f: &Facts, column: Column) -> bool
-    ensures { result ≡ column_stands f.now column }
+    ensures value { result ≡ column_stands f.now column }
+    ensures in_row { result ≡ stands_at f.now (place_of column) }
 {
     match column {
         Column::Jitter => first_jobs::first_jitter(f).is_some(),

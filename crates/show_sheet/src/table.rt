@@ -99,15 +99,15 @@ fn put_regions<'a, W: fmt::Write>(
 ) -> fmt::Result
     requires { k < most_tasks }
 {
-    match parts::regions(f.table, regions.own, regions.catalogue, k + 1) {
-        Ok([first, rest @ ..]) => {
+    match parts::regions_words(f.table, regions.own, regions.catalogue, k + 1) {
+        [first, rest @ ..] => {
             write!(out, " {first}")?;
             for word in rest {
                 write!(out, "+{word}")?;
             }
             Ok(())
         }
-        _ => Ok(()),
+        [] => Ok(()),
     }
 }
 

@@ -1,4 +1,4 @@
--- The definitions as they stood before document 02, items 8 and 9, word for word: those that J and edition 2 have entered, and those that stand on them. What they are made of and these items left alone they take from `paper`.
+-- The definitions as they stood before document 02, items 8 and 9, word for word but that an answer is a `Result` and a time an `Option` today: those that J and edition 2 have entered, and those that stand on them. What they are made of and these items left alone they take from `paper`.
 -- `Record` and `Tasks` have a field J today: `record_from` makes a record with J = 0, and `zero_record` (J = 0 too) and `tasks_of` are today's, as there is one type of a record. Nothing on this page reads J.
 -- A file that is read is handed back with its edition today: `reading_of` makes it with 1, the one edition that there was.
 use Rattle.std.proofs.Common.{Option, Some, None, Result, Ok, Err}

@@ -1,7 +1,7 @@
--- The invariant: `stay` is the trimmed length of the bytes so far.
-use Rattle.std.proofs.Common.{◌≡◌, ◌≤◌}
-use Rattle.paper.specs.Regions.{trimmed}
+-- The invariant: what is left has the same trimmed length as the whole.
+use Rattle.std.proofs.Common.{◌≡◌, ◌-◌}
+use Rattle.paper.specs.Regions.{name_width, trimmed}
 use Rattle.parts.proofs.kept.Given as goal
 
-abbrev pub invariant-loop-k : goal.invariant-loop-k
-invariant-loop-k l = (l.stay ≤ l.k) × (l.stay ≡ trimmed l.s l.at l.k)
+abbrev pub invariant-loop-gone : goal.invariant-loop-gone
+invariant-loop-gone l = trimmed l.s l.at (name_width - l.gone) ≡ trimmed l.s l.at name_width

@@ -3,7 +3,7 @@ use Rattle.columns.specs.Tasks.{tasks_in}
 use Rattle.jobs.proofs.Blocks.{stands}
 use Rattle.jobs.proofs.Task.new.Goals as goal
 
-pub invariant_of-result : goal.invariant_of-result
-invariant_of-result c =
+pub standing-requires : goal.standing-requires
+standing-requires c =
     let a = c.args in
-    record { stands = stands (tasks_in a.y.now) (assigned_by a.p.now a.h.now) a.i (ranked_by a.p.now).h _ c.stand_of.ensures a.y.now.ranged c.requires.placed c.requires.among }
+    stands (tasks_in a.y.now) (assigned_by a.p.now a.h.now) a.i (ranked_by a.p.now).h _ c.stand_of.ensures a.y.now.ranged c.requires.placed c.requires.among
