@@ -2,7 +2,7 @@
 // whole exactly when its last piece ends where the body does, since no piece that lies past the end can.
 #![tactic(auto)]
 
-ghost use Rattle.std.specs.Prelude.{◌≤◌};
+ghost use Rattle.std.specs.Prelude.{◌≤◌, ◌<◌, IsTrue, length};
 
 use paper::{Cabinet, Line, MOST_TASKS, Plate, Record, Source, Table};
 
@@ -191,7 +191,9 @@ const TOO_LONG: usize = 65536;
 
 // A request of a known kind, with a body that is just as long as its pieces. A kind is a byte of the protocol (docs/ASK.md) and no
 // enum: any may come in.
-pub fn is_whole(kind: u8, bytes: &[u8]) -> bool {
+pub fn is_whole(kind: u8, bytes: &[u8]) -> bool
+    ensures { IsTrue result → length bytes.now < 65536 }
+{
     let mut body = Body::new(bytes);
     match kind {
         1 | 9 => {

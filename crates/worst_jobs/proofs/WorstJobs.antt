@@ -22,13 +22,13 @@ use Rattle.worst_jobs.specs.WorstJobs.{worst_by, worst_in, worst_at}
 use Rattle.worst_jobs.specs.declared.Worst.{Worst}
 use Rattle.worst_jobs.specs.declared.Worst.TheVariants.{Later, Late, Unknown}
 
-worst_late : (x k d : ℕ) → d < x → worst_by (Some x) k d ≡ Some (Late k (x - d))
+pub worst_late : (x k d : ℕ) → d < x → worst_by (Some x) k d ≡ Some (Late k (x - d))
 worst_late x k d h = rw (lt-leb x d h)
 
-worst_first : (x k d : ℕ) → x ≤ d → k ≡ 0 → worst_by (Some x) k d ≡ None
+pub worst_first : (x k d : ℕ) → x ≤ d → k ≡ 0 → worst_by (Some x) k d ≡ None
 worst_first x k d h z = rw (le-leb x d h, eq-eqb k 0 z)
 
-worst_later : (x k d : ℕ) → x ≤ d → (k ≡ 0 → ⊥) → worst_by (Some x) k d ≡ Some (Later k)
+pub worst_later : (x k d : ℕ) → x ≤ d → (k ≡ 0 → ⊥) → worst_by (Some x) k d ≡ Some (Later k)
 worst_later x k d h z = rw (le-leb x d h, ne_eqb k 0 z)
 
 -- what a line says of a response time x that job k reached
